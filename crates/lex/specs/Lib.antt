@@ -1,0 +1,4 @@
+pub mod Dictionary
+pub mod Every
+pub mod First
+pub mod Scan
