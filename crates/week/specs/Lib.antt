@@ -1,0 +1,3 @@
+pub mod Rules
+pub mod Refusal
+pub mod Tables
