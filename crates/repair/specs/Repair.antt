@@ -1,0 +1,64 @@
+-- Repairs of an order for lost lots, and the one that is chosen.
+-- As everywhere, p is a lot, w the slot in which it stood and v the slot to which it goes. Assumes nothing.
+use mathlib.Core.Bool.{Bool, _&&_, _||_, not, cond}
+use mathlib.Core.List.{List}
+use mathlib.Core.Option.{Option}
+use Prim.Native.Nat.{ℕ, _+_}
+use lib.Dec.{eqb, ltb, leb}
+use lib.ListN.{length, getD}
+use Rattle.lex.specs.Every.{imp, every, count, someOf}
+use Rattle.lex.specs.First.{first, always}
+use Rattle.week.specs.declared.Numbers.{Numbers}
+use Rattle.week.specs.Rules.{Rules, bitOf, keeps}
+
+-- what a repair is asked for: the numbers, the give words, the order that stands and the lost lots
+pub record Case : Type 0 where
+  pub numbers : Numbers
+  pub give : List ℕ
+  pub stands : List ℕ
+  pub lost : List ℕ
+
+abbrev pub case : Numbers → List ℕ → List ℕ → List ℕ → Case
+case N g s A = record { numbers = N; give = g; stands = s; lost = A }
+
+unfoldable pub isLost : List ℕ → ℕ → Bool
+isLost A p = someOf (eqb p) A
+
+-- a lost lot stands in another slot; under alternative rule 1 the old slot w and the new v satisfy w + k < v
+unfoldable pub replaces : Numbers → ℕ → ℕ → Bool
+replaces N w v = not (eqb w v) && imp (eqb (N .alternative) 1) (ltb (w + N .gap) v)
+
+-- a lot outside the lost set that moves stood in a slot of its give word g
+unfoldable pub yields : ℕ → ℕ → ℕ → Bool
+yields g w v = eqb w v || bitOf g w
+
+-- under helper rule 1 no lot, lost or not, moves to a smaller slot
+unfoldable pub helps : Numbers → ℕ → ℕ → Bool
+helps N w v = imp (eqb (N .helper) 1) (leb w v)
+
+-- lot p may go from where it stands to slot v, whatever the other lots do
+unfoldable pub mayGo : Case → ℕ → ℕ → Bool
+mayGo C p v =
+    helps (C .numbers) (getD (C .stands) p 0) v
+    && cond (isLost (C .lost) p) (replaces (C .numbers) (getD (C .stands) p 0) v) (yields (getD (C .give) p 0) (getD (C .stands) p 0) v)
+
+-- lot p is outside the lost set, and slot v is not where it stands
+unfoldable pub moves : Case → ℕ → ℕ → Bool
+moves C p v = not (isLost (C .lost) p) && not (eqb (getD (C .stands) p 0) v)
+
+unfoldable pub goesAt : Case → List ℕ → ℕ → Bool
+goesAt C r p = mayGo C p (getD r p 0)
+
+unfoldable pub movesAt : Case → List ℕ → ℕ → Bool
+movesAt C r p = moves C p (getD r p 0)
+
+-- r, or the beginning of an order, is a repair: it keeps the rules, each lot may go where it goes, and at most b lots move outside the lost set
+unfoldable pub mends : Rules → Case → List ℕ → Bool
+mends R C r = keeps R r && (every (goesAt C r) (length r) && leb (count (movesAt C r) (length r)) (C .numbers .b))
+
+unfoldable pub isRepair : Rules → Case → List ℕ → Bool
+isRepair R C r = eqb (length r) (R .lots) && mends R C r
+
+-- the repair that is chosen: the first
+unfoldable pub repairOf : Rules → Case → Option (List ℕ)
+repairOf R C = first (mends R C) always 16 (R .lots)
