@@ -120,3 +120,12 @@ module _ (ok fin : List ℕ → Bool) (k : ℕ) (closed : Closed ok) where
   -- where none is found, none passes
   pub first-none : (n : ℕ) → first ok fin k n ≡ none → (l : List ℕ) → Passes ok fin k n l → ⊥
   first-none n e = subst (Meets (Passes ok fin k n)) e (first-meets n)
+
+-- two pruning tests that agree on whole lists find the same
+pub first-same : (ok other fin : List ℕ → Bool) (k n : ℕ) → Closed ok → Closed other → ((l : List ℕ) → length l ≡ n → ok l ≡ other l) → first ok fin k n ≡ first other fin k n
+first-same ok other fin k n c d e =
+    first-is other fin k d n (first ok fin k n)
+    (meets-same (Passes ok fin k n) (Passes other fin k n)
+    (λ l q. record { len = q .len; under = q .under; good = sym (e l (q .len)) ∙ q .good; final = q .final })
+    (λ l q. record { len = q .len; under = q .under; good = e l (q .len) ∙ q .good; final = q .final })
+    (first ok fin k n) (first-meets ok fin k c n))

@@ -1,11 +1,11 @@
 -- Breaks: the sets of lots that can be lost, in the order of a repair table's rows.
 -- A set of lots is the ascending list of its lots. Assumes nothing.
-use mathlib.Core.Bool.{Bool, cond}
+use mathlib.Core.Bool.{Bool, true, false, _&&_, cond}
 use mathlib.Core.List.{List, [], _∷_, _++_, map, flatMap}
-use Prim.Native.Nat.{ℕ, zero, suc, _-_}
-use lib.Dec.{ltb}
-use lib.ListN.{getD}
-use Rattle.lex.specs.Every.{everyOf}
+use Prim.Native.Nat.{ℕ, zero, suc, _+_, _-_, _*_, _≤_, _<_}
+use lib.Dec.{eqb, ltb, leb}
+use lib.ListN.{length, getD, take, drop}
+use Rattle.lex.specs.Every.{all, every, everyOf}
 use Rattle.week.specs.Rules.{bitOf}
 
 -- the k lots from p on
@@ -36,3 +36,52 @@ lostSets n a = cond (ltb 0 a) (singles n) [] ++ cond (ltb 1 a) (pairs n) []
 -- each lot of the set stands, in order s, in a slot of its loss word
 unfoldable pub breaks : List ℕ → List ℕ → List ℕ → Bool
 breaks loss s lost = everyOf (λ p. bitOf (getD loss p 0) (getD s p 0)) lost
+
+-- Lost lots as they are handed in: `least` to `most` of them, each below n and below the next
+
+unfoldable pub lotBelow : ℕ → List ℕ → ℕ → Bool
+lotBelow n A i = ltb (getD A i 0) n
+
+unfoldable pub lotAscends : List ℕ → ℕ → Bool
+lotAscends A i = ltb (getD A i 0) (getD A (i + 1) 0)
+
+abbrev pub lostTests : ℕ → ℕ → ℕ → List ℕ → List Bool
+lostTests n least most A =
+    leb least (length A)
+    ∷ leb (length A) most
+    ∷ every (lotBelow n A) (length A)
+    ∷ every (lotAscends A) (length A - 1)
+    ∷ []
+
+unfoldable pub lostOk : ℕ → ℕ → ℕ → List ℕ → Bool
+lostOk n least most A = all (lostTests n least most A)
+
+-- one lot, or two ascending ones
+pub record LostList (A : List ℕ) : Type 0 where
+  pub some : 1 ≤ length A
+  pub few : length A ≤ 2
+  pub ascends : 1 < length A → getD A 0 0 < getD A 1 0
+
+-- The rows of a repair table
+
+unfoldable pub sameSet : List ℕ → List ℕ → Bool
+sameSet [] [] = true
+sameSet [] (q ∷ B) = false
+sameSet (p ∷ A) [] = false
+sameSet (p ∷ A) (q ∷ B) = eqb p q && sameSet A B
+
+-- the number of the first member that passes f
+unfoldable pub place : (List ℕ → Bool) → List (List ℕ) → ℕ
+place f [] = 0
+place f (A ∷ l) = let r = suc (place f l) in cond (f A) 0 r
+
+-- the row that stands for a set; rows count from 0
+unfoldable pub rowNumber : ℕ → List ℕ → ℕ
+rowNumber n A = place (sameSet A) (lostSets n 2)
+
+unfoldable pub rowCount : ℕ → ℕ → ℕ
+rowCount n a = length (lostSets n a)
+
+-- row i of a table of n bytes a row
+unfoldable pub rowAt : ℕ → List ℕ → ℕ → List ℕ
+rowAt n table i = take n (drop (i * n) table)

@@ -1,2 +1,4 @@
 pub mod Break
 pub mod Repair
+pub mod Found
+pub mod Service

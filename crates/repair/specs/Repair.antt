@@ -6,10 +6,10 @@ use mathlib.Core.Option.{Option}
 use Prim.Native.Nat.{ℕ, _+_}
 use lib.Dec.{eqb, ltb, leb}
 use lib.ListN.{length, getD}
-use Rattle.lex.specs.Every.{imp, every, count, someOf}
+use Rattle.lex.specs.Every.{imp, every, oneIf, count, someOf}
 use Rattle.lex.specs.First.{first, always}
 use Rattle.week.specs.declared.Numbers.{Numbers}
-use Rattle.week.specs.Rules.{Rules, bitOf, keeps}
+use Rattle.week.specs.Rules.{Rules, bitOf, keeps, fits, keepsHalf}
 
 -- what a repair is asked for: the numbers, the give words, the order that stands and the lost lots
 pub record Case : Type 0 where
@@ -62,3 +62,16 @@ isRepair R C r = eqb (length r) (R .lots) && mends R C r
 -- the repair that is chosen: the first
 unfoldable pub repairOf : Rules → Case → Option (List ℕ)
 repairOf R C = first (mends R C) always 16 (R .lots)
+
+-- What the code searches by, lot after lot, each pair of lots once: it finds the same repair on accepted tables
+-- (proofs/Mends.antt, `repair-half`)
+
+unfoldable pub mendsHalf : Rules → Case → List ℕ → Bool
+mendsHalf R C r = keepsHalf R r && (every (goesAt C r) (length r) && leb (count (movesAt C r) (length r)) (C .numbers .b))
+
+-- slot v for lot p, behind the slots that r gives the lots before p
+unfoldable pub mendsAt : Rules → Case → List ℕ → ℕ → ℕ → Bool
+mendsAt R C r p v = fits R r p v && (mayGo C p v && leb (count (movesAt C r) p + oneIf (moves C p v)) (C .numbers .b))
+
+unfoldable pub repairHalf : Rules → Case → Option (List ℕ)
+repairHalf R C = first (mendsHalf R C) always 16 (R .lots)

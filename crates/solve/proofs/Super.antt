@@ -17,7 +17,7 @@ use Rattle.week.specs.Rules.{keeps}
 use Rattle.week.specs.Tables.{Week, lots, pairRules}
 use Rattle.repair.specs.Break.{singles, pairs, lostSets}
 use Rattle.repair.specs.Repair.{case, isLost, replaces, yields, helps, mayGo, moves, goesAt, movesAt}
-use Rattle.repair.proofs.Repair.{mends-read, mends-make, repair-found, found-repair}
+use Rattle.repair.proofs.Mends.{mends-read, mends-make, repair-found, found-repair}
 use Rattle.solve.specs.Super.{isBreak, repairFor, safe, robust, isSuper}
 
 -- the week with other numbers a and b

@@ -123,6 +123,10 @@ module _ (R : Rules) where
   unfolding keepsHalf lotFits
   half-make s h = every-true (lotFits R s) (length s) h
 
+  -- every slot of what the code's half lets through is below 16
+  pub half-below : (s : List ℕ) → keepsHalf R s ≡ true → (p : ℕ) → p < length s → getD s p 0 < 16
+  half-below s e p l = domain-below R p (getD s p 0) (fits-domain R s p (getD s p 0) (half-fits s e p l))
+
   pub keeps-half : Symmetric → (s : List ℕ) → length s ≤ R .lots → keeps R s ≡ keepsHalf R s
   unfolding beside
   keeps-half mirror s n = same-truth (keeps R s) (keepsHalf R s) there back
@@ -135,13 +139,10 @@ module _ (R : Rules) where
       stands : keepsHalf R s ≡ true → (p : ℕ) → p < length s → inDomain R p (getD s p 0) ≡ true
       stands e p l = fits-domain R s p (getD s p 0) (half-fits s e p l)
 
-      below : keepsHalf R s ≡ true → (p : ℕ) → p < length s → getD s p 0 < 16
-      below e p l = domain-below R p (getD s p 0) (stands e p l)
-
       pair : keepsHalf R s ≡ true → (p q : ℕ) → p < length s → q < length s → (p ≡ q → ⊥) → together R p (getD s p 0) q (getD s q 0) ≡ true
       pair e p q l m h = elim (decLt q p) [
         | yes g ↦ fits-beside R s p (getD s p 0) (half-fits s e p l) q g
-        | no g ↦ mirror p (getD s p 0) q (getD s q 0) (omega arith) (below e p l) (omega arith) (below e q m) ∙ fits-beside R s q (getD s q 0) (half-fits s e q m) p (omega arith)
+        | no g ↦ mirror p (getD s p 0) q (getD s q 0) (omega arith) (half-below s e p l) (omega arith) (half-below s e q m) ∙ fits-beside R s q (getD s q 0) (half-fits s e q m) p (omega arith)
       ]
 
       back : keepsHalf R s ≡ true → keeps R s ≡ true

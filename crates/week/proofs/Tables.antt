@@ -1,6 +1,6 @@
 -- Laws of the refusals 1 to 4: what accepted numbers and tables satisfy, and what the code's half of the pairs shows.
 -- Assumes nothing.
-use mathlib.Core.Path.{_≡_, refl, sym, _∙_, ap}
+use mathlib.Core.Path.{_≡_, refl, sym, _∙_, ap, subst₂}
 use mathlib.Core.Bool.{Bool, true, false, _&&_, not, cond, Bool·beq, true≢false}
 use mathlib.Core.List.{List}
 use Prim.Native.Nat.{ℕ, zero, suc, _+_, _*_, _≤_, _<_}
@@ -34,6 +34,13 @@ stops-last ok k e = rw e
 
 pub goes-off : (ok : Bool) (k : ℕ) → ok ≡ true → 0 ≡ unless ok k
 goes-off ok k e = rw e
+
+-- the same where the first part of a chain is a chain itself
+pub halts : {x : ℕ} (a b : ℕ) → x ≡ a → (x ≡ 0 → ⊥) → x ≡ orElse a b
+halts a b e h = e ∙ sym (ap (λ (t : Bool). cond t b a) (ne-eqb a 0 (λ z. h (e ∙ z))))
+
+pub runs-on : {x : ℕ} (a b : ℕ) → a ≡ 0 → x ≡ b → x ≡ orElse a b
+runs-on a b e f = f ∙ sym (ap (λ (t : Bool). cond t b a) (eq-eqb a 0 e))
 
 -- a chain that answers 0 passed its first check and the rest
 pub passed-first : (ok : Bool) (k b : ℕ) → (k ≡ 0 → ⊥) → orElse (unless ok k) b ≡ 0 → ok ≡ true
@@ -273,3 +280,17 @@ module _ (one two : Bool) (W : Week) where
       go true false true true false d = refl
       go true false true true true false = refl
       go true false true true true true = refl
+
+  -- a service that is not refused passed its own tests, and its tables are accepted
+  pub admits-one : admits one two W ≡ 0 → one ≡ true
+  unfolding admits
+  admits-one e = and-left one (numbersOk (W .numbers)) (passed-first (one && numbersOk (W .numbers)) 1 _ (λ z. omega arith) e)
+
+  pub admits-two : admits one two W ≡ 0 → two ≡ true
+  unfolding admits
+  admits-two e =
+      let l = lengthsOk (lots W) (W .domain) (W .loss) (W .give) (W .ties) in
+      and-left two l (passed-first (two && l) 2 _ (λ z. omega arith) (passed-rest (one && numbersOk (W .numbers)) 1 _ (λ z. omega arith) e))
+
+  pub admits-tables : admits one two W ≡ 0 → refusal W ≡ 0
+  admits-tables e = subst₂ (λ (a b : Bool). admits a b W ≡ 0) (admits-one e) (admits-two e) e
