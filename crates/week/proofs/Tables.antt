@@ -51,6 +51,17 @@ pub passed-rest : (ok : Bool) (k b : ℕ) → (k ≡ 0 → ⊥) → orElse (unle
 passed-rest true k b h e = e
 passed-rest false k b h e = absurd (h (sym (ap (λ (t : Bool). cond t b k) (ne-eqb k 0 h)) ∙ e))
 
+-- a chain of two chains that answers 0: so does each
+pub zero-first : (a b : ℕ) → orElse a b ≡ 0 → a ≡ 0
+zero-first a b e = go (eqb a 0) refl e
+  where
+    go : (t : Bool) → eqb a 0 ≡ t → cond t b a ≡ 0 → a ≡ 0
+    go true f g = eqb-true a 0 f
+    go false f g = g
+
+pub zero-rest : (a b : ℕ) → orElse a b ≡ 0 → b ≡ 0
+zero-rest a b e = runs-on a b (zero-first a b e) refl ∙ e
+
 pub passed-last : (ok : Bool) (k : ℕ) → (k ≡ 0 → ⊥) → unless ok k ≡ 0 → ok ≡ true
 passed-last true k h e = refl
 passed-last false k h e = absurd (h e)

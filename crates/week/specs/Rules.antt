@@ -3,10 +3,10 @@
 -- Assumes nothing.
 use mathlib.Core.Bool.{Bool, _&&_, _||_, not}
 use mathlib.Core.List.{List}
-use Prim.Native.Nat.{ℕ, _+_, _*_, _/_, _%_, _^_}
+use Prim.Native.Nat.{ℕ, zero, suc, _+_, _*_, _/_, _%_, _^_}
 use lib.Dec.{eqb, ltb}
 use lib.ListN.{length, getD}
-use Rattle.lex.specs.Every.{imp, every}
+use Rattle.lex.specs.Every.{imp, every, oneIf}
 
 -- the lots of a week, their domain words and the tie table
 pub record Rules : Type 0 where
@@ -20,6 +20,11 @@ rules n d t = record { lots = n; domain = d; ties = t }
 -- bit v of a 16-bit word; slots over 15 are in no word
 unfoldable pub bitOf : ℕ → ℕ → Bool
 bitOf x v = ltb v 16 && eqb (x / 2 ^ v % 2) 1
+
+-- the word of the slots below k that pass f
+unfoldable pub wordOf : (ℕ → Bool) → ℕ → ℕ
+wordOf f zero = 0
+wordOf f (suc k) = wordOf f k + oneIf (f k) * 2 ^ k
 
 -- every slot of word x is in word y
 unfoldable pub inside : ℕ → ℕ → Bool

@@ -67,7 +67,7 @@ pub fn bit(word: u16, slot: Slot) -> bool
 }
 
 // Whether every slot of one word is in another.
-fn within(part: u16, whole: u16) -> bool
+pub fn within(part: u16, whole: u16) -> bool
     ensures { λ r. ⌜ r ≡ inside part whole ⌝ }
 {
     part & whole == part

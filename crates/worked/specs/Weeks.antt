@@ -1,24 +1,19 @@
 -- The worked weeks of document 01, marked (P) there, and the errors that look right: what is claimed of each week.
 -- proofs/Weeks.antt proves the whole table at once, by computation. Assumes nothing.
-use mathlib.Core.Bool.{Bool, true, false, _&&_, not, Bool·beq}
+use mathlib.Core.Bool.{Bool, true, false, _&&_, not}
 use mathlib.Core.List.{List, [], _∷_, map, flatMap}
 use mathlib.Core.Option.{Option, none, some}
-use Prim.Native.Nat.{ℕ, zero, suc, _+_, _*_, _^_}
+use Prim.Native.Nat.{ℕ, zero, suc}
 use lib.Dec.{eqb, leb}
 use lib.ListN.{getD}
-use Rattle.lex.specs.Every.{oneIf, everyOf}
+use Rattle.lex.specs.Every.{everyOf}
 use Rattle.week.specs.declared.Numbers.{Numbers}
-use Rattle.week.specs.Rules.{bitOf}
+use Rattle.week.specs.Rules.{bitOf, wordOf}
 use Rattle.week.specs.Tables.{Week, week, refusal}
 use Rattle.repair.specs.Break.{lotsFrom}
 use Rattle.solve.specs.Super.{repairFor, isSuper, firstSuper, rows}
 
 -- Tables from a rule
-
--- the word of the slots below k that pass f
-unfoldable pub wordOf : (ℕ → Bool) → ℕ → ℕ
-wordOf f zero = 0
-wordOf f (suc k) = wordOf f k + oneIf (f k) * 2 ^ k
 
 -- the tie table of n lots where `may p v q w` says whether lot p in slot v and lot q in slot w may stand together
 unfoldable pub tieTable : ℕ → List ℕ → (ℕ → ℕ → ℕ → ℕ → Bool) → List ℕ
