@@ -9,15 +9,15 @@ use native.Mathlib.Omega.{arith}
 use native.Mathlib.Nat.{le-refl, add-zero}
 use native.Mathlib.Numerals.{add-one}
 use lib.Dec.{leb, ltb, eqb, leb·zero}
-use lib.ListN.{getD, length, take, replicate}
-use lib.Seq.{getD-append-seam, getD-take, length-take-le}
+use lib.ListN.{getD, length, take, replicate, length-append, length-replicate}
+use lib.Seq.{getD-append-seam, getD-take, length-take-le, take-at}
 use borrow.Author.Tests.{leb-true, le-leb, eqb-true}
 use Rattle.lex.specs.Dictionary.{Meets}
 use Rattle.lex.specs.Every.{every, count, oneIf, someOf}
 use Rattle.lex.specs.First.{Passes, always, isFound}
 use Rattle.lex.proofs.Dictionary.{under-all}
 use Rattle.lex.proofs.Every.{both, and-left, and-right, count-cong, Snoc, Closed, every-snoc, count-snoc, snoc-closed, snoc-link, snoc-and}
-use Rattle.lex.proofs.First.{first-meets, first-is, first-same}
+use Rattle.lex.proofs.First.{first-meets, first-is, first-same, first-some}
 use Rattle.lex.proofs.Search.{Space, passes-space}
 use Rattle.week.specs.Rules.{Rules, keeps, fits, keepsHalf}
 use Rattle.week.proofs.Rules.{keeps-closed, keeps-below, fits-cong, half-snoc as keeps-snoc, half-below, Symmetric, keeps-half}
@@ -232,6 +232,22 @@ module _ (R : Rules) (C : Case) where
   repair-half s = first-same (mends R C) (mendsHalf R C) always 16 (R .lots) (mends-closed R C) half-closed (λ l n. ap (λ (b : Bool). b && (goes l && few l)) (keeps-half R s l (omega arith)))
 
 -- An order found, as the code holds it
+
+-- what the search finds has a slot for each lot
+pub half-long : (R : Rules) (C : Case) (r : List ℕ) → repairHalf R C ≡ some r → length r ≡ R .lots
+unfolding repairHalf
+half-long R C r e = first-some (mendsHalf R C) always 16 (half-closed R C) (R .lots) r e .len
+
+-- and the places of 24 lots
+pub padded-wide : (n : ℕ) (o : Option (List ℕ)) → n ≤ 24 → ((r : List ℕ) → o ≡ some r → length r ≡ n) → n ≤ length (padded o)
+unfolding padded
+padded-wide n none h long = rw length-replicate h
+padded-wide n (some r) h long = rw length-append (let e = long r refl in omega arith)
+
+pub padded-take : (n : ℕ) (r : List ℕ) → length r ≡ n → take n (padded (some r)) ≡ r
+unfolding padded
+padded-take n r e = take-at r _ n e
+
 pub padded-some : (s r : List ℕ) (n : ℕ) → length r ≡ n → s ≡ r ++ replicate (24 - n) 0 → s ≡ padded (some r)
 unfolding padded
 padded-some s r n e f = rw e f

@@ -1,28 +1,26 @@
 -- Each answer of the service repair, from what the code knows where it gives it.
 -- Assumes nothing.
-use mathlib.Core.Path.{_≡_, refl, sym, _∙_, ap}
+use mathlib.Core.Path.{_≡_, refl, sym, _∙_, ap, ap₂}
 use mathlib.Core.Bool.{Bool, true, false, cond, true≢false}
 use mathlib.Core.List.{List}
 use mathlib.Core.Option.{Option, none, some}
 use Prim.Native.Nat.{ℕ, _≤_}
 use native.Mathlib.Omega.{arith}
 use lib.Dec.{eqb}
-use lib.ListN.{length, take, length-append, length-replicate}
-use lib.Seq.{take-at}
+use lib.ListN.{length, take}
 use borrow.Author.Tests.{eqb-true, ne-eqb}
-use Rattle.lex.specs.First.{always, isFound, orOld}
+use Rattle.lex.specs.First.{isFound, orOld}
 use Rattle.lex.proofs.Every.{and-left, and-right}
-use Rattle.lex.proofs.First.{first-some}
 use Rattle.week.specs.Refusal.{unless}
 use Rattle.week.specs.Rules.{Rules, keeps, keepsHalf}
 use Rattle.week.specs.Tables.{Week, lots, pairRules, admits}
 use Rattle.week.proofs.Tables.{Accepted, accepted, accepted-keeps, admits-one, admits-two, admits-tables, halts, runs-on, stops, goes-on}
 use Rattle.repair.specs.Break.{lostOk, LostList}
-use Rattle.repair.specs.Repair.{Case, case, mendsHalf, repairOf, repairHalf}
+use Rattle.repair.specs.Repair.{Case, case, repairOf, repairHalf}
 use Rattle.repair.specs.Found.{padded}
 use Rattle.repair.specs.Service.{repairLengths, repairAnswer, repairOut, Repaired}
 use Rattle.repair.proofs.Break.{lost-read, lost-list}
-use Rattle.repair.proofs.Mends.{half-closed, repair-half}
+use Rattle.repair.proofs.Mends.{repair-half, half-long, padded-wide, padded-take}
 
 module _ (W : Week) (s A out : List ℕ) where
   abbrev one : Bool
@@ -81,32 +79,20 @@ module _ (W : Week) (s A out : List ℕ) where
       unfolding repairAnswer
       answered k e = runs-on (admits one two W) _ (known .admitted) (goes-on (keeps R s) 6 _ (kept ∙ stands) (e ∙ ap (λ (a : Option (List ℕ)). unless (isFound a) 8) (sym chosen)))
 
-      long : (r : List ℕ) → repairHalf R C ≡ some r → length r ≡ lots W
-      unfolding repairHalf
-      long r e = first-some (mendsHalf R C) always 16 (half-closed R C) (lots W) r e .len
-
       -- what was found has room for the buffer's lots
       pub wide : (slots : List ℕ) → slots ≡ padded (repairHalf R C) → length out ≤ length slots
-      unfolding padded
-      wide slots f = go (repairHalf R C) refl f
-        where
-          go : (a : Option (List ℕ)) → repairHalf R C ≡ a → slots ≡ padded a → length out ≤ length slots
-          go none h j = rw (j, length-replicate) (let e = known .room in let l = known .tables .limits .few in omega arith)
-          go (some r) h j = rw (j, length-append) (let e = known .room in let f = long r h in omega arith)
+      wide slots f = rw (f, known .room) (padded-wide (lots W) (repairHalf R C) (known .tables .limits .few) (half-long R C))
 
       -- what was found is handed out
       pub by-search : (k : ℕ) (o slots : List ℕ) (is : Bool) → is ≡ isFound (repairHalf R C) → slots ≡ padded (repairHalf R C) → k ≡ unless is 8 → o ≡ cond is (take (length out) slots) out → Repaired W s A out k o
-      unfolding repairOut padded
+      unfolding repairOut
       by-search k o slots is e f g h = record {
         answer = answered k (g ∙ ap (λ (b : Bool). unless b 8) e);
         buffer = rw (sym (answered k (g ∙ ap (λ (b : Bool). unless b 8) e)), g, chosen) (go (repairHalf R C) refl is e f h);
       }
         where
-          shown : (r : List ℕ) → length r ≡ lots W → take (length out) (padded (some r)) ≡ r
-          shown r e = take-at r _ (length out) (e ∙ sym (known .room))
-
           go : (a : Option (List ℕ)) → repairHalf R C ≡ a → (b : Bool) → b ≡ isFound a → slots ≡ padded a → o ≡ cond b (take (length out) slots) out → o ≡ cond (eqb (unless b 8) 0) (orOld a out) out
           go none h true i j l = absurd (true≢false i)
           go none h false i j l = l
-          go (some r) h true i j l = l ∙ ap (take (length out)) j ∙ shown r (long r h)
+          go (some r) h true i j l = l ∙ ap₂ take (known .room) j ∙ padded-take (lots W) r (half-long R C r h)
           go (some r) h false i j l = absurd (true≢false (sym i))

@@ -312,8 +312,8 @@ fn lost_of(lost: &[u8]) -> Lost
     Lost(lot_at(lost, 0), lot_at(lost, lost.len() - 1))
 }
 
-// The first bytes of `slots` into `out`, as many as it holds.
-fn copy_slots(slots: &[u8], out: &mut [u8])
+// The first bytes of `slots` into `out`, as many as it holds. Inner layers share it: they know that `slots` has as many.
+pub fn copy_slots(slots: &[u8], out: &mut [u8])
     requires { ⌜ length (now out) ≤ length (now slots) ⌝ }
     ensures { λ _. ⌜ now (out .exit) ≡ take (length (now (out .entry))) (now (slots .entry)) ⌝ }
 {
@@ -352,8 +352,8 @@ fn repair_admits(
     week::join(one, two, week::judge(numbers, domain, loss, give, ties))
 }
 
-// What was found into `out`, and 0; or 8, and `out` as it was.
-fn hand_out(found: Found, out: &mut [u8]) -> u32
+// What was found into `out`, and 0; or 8, and `out` as it was. Inner layers share it: they know that what was found has room.
+pub fn hand_out(found: Found, out: &mut [u8]) -> u32
     requires { ⌜ length (now out) ≤ length (found .order .slots) ⌝ }
     ensures { λ r. ⌜ (r ≡ unless (found .is) 8) × (now (out .exit) ≡ cond (found .is) (take (length (now (out .entry))) (found .order .slots)) (now (out .entry))) ⌝ }
 {
@@ -437,8 +437,8 @@ fn row_number(n: u32, lost: Lost) -> usize
     lots + p * (lots + lots - p - 1) / 2 + (q - p - 1)
 }
 
-// Refusal 2 of row: whether the order has n bytes and the table n bytes a row.
-fn row_lengths(n: u32, a: u32, order: &[u8], table: &[u8]) -> bool
+// Whether an order has n bytes and its table n bytes a row. Inner layers share it: they know the limits of n and a.
+pub fn row_lengths(n: u32, a: u32, order: &[u8], table: &[u8]) -> bool
     requires { ⌜ (1 ≤ n) × ((n ≤ 24) × (a ≤ 2)) ⌝ }
     ensures { λ r. ⌜ r ≡ rowLengths n a (now (order .entry)) (now (table .entry)) ⌝ }
 {
