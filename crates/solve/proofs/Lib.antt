@@ -1,1 +1,4 @@
+pub mod Rows
+pub mod Service
 pub mod Super
+pub mod Table

@@ -1,11 +1,11 @@
 -- Super solutions: orders in which each break has a repair; the first of them, and its repair table.
 -- Assumes nothing.
 use mathlib.Core.Bool.{Bool, _&&_, cond}
-use mathlib.Core.List.{List, map}
+use mathlib.Core.List.{List, [], map, flatMap}
 use mathlib.Core.Option.{Option}
 use Prim.Native.Nat.{ℕ}
 use lib.Dec.{eqb}
-use lib.ListN.{length}
+use lib.ListN.{length, getD}
 use Rattle.lex.specs.Every.{imp, everyOf}
 use Rattle.lex.specs.First.{first, isFound, orOld}
 use Rattle.week.specs.Rules.{keeps}
@@ -29,6 +29,10 @@ repairFor W s A = repairOf (pairRules W) (case (W .numbers) (W .give) s A)
 unfoldable pub safe : Week → List ℕ → List ℕ → Bool
 safe W s A = imp (isBreak W s A) (isFound (repairFor W s A))
 
+-- the set of row i is safe
+unfoldable pub safeRow : Week → List ℕ → ℕ → Bool
+safeRow W s i = safe W s (getD (rowSets W) i [])
+
 -- each break has a repair
 unfoldable pub robust : Week → List ℕ → Bool
 robust W s = everyOf (safe W s) (rowSets W)
@@ -46,3 +50,7 @@ rowOf W s A = cond (isBreak W s A) (orOld (repairFor W s A) s) s
 
 unfoldable pub rows : Week → List ℕ → List (List ℕ)
 rows W s = map (rowOf W s) (rowSets W)
+
+-- the repair table: the rows one behind the other
+unfoldable pub tableOf : Week → List ℕ → List ℕ
+tableOf W s = flatMap (rowOf W s) (rowSets W)

@@ -1,1 +1,274 @@
-// Super solutions: what solve finds and check judges. The services stand here once they are proved.
+// Super solutions: the first one and its repair table.
+use repair::Found;
+use repair::Lost;
+use week::Lot;
+use week::Numbers;
+use week::Order;
+use week::Slot;
+ghost use mathlib.Core.Path.{_≡_};
+ghost use mathlib.Core.List.{[]};
+ghost use Prim.Native.Nat.{_*_, _≤_, _<_};
+ghost use lib.ListN.{length, getD};
+ghost use Rattle.lex.specs.Scan.{scanFrom};
+ghost use Rattle.week.specs.Rules.{rules, fits};
+ghost use mathlib.Core.Bool.{true};
+ghost use Rattle.week.specs.Tables.{week, refusal, admits};
+ghost use Rattle.repair.specs.Service.{rowLengths};
+ghost use Rattle.solve.specs.Service.{Solved};
+ghost use Rattle.repair.specs.Break.{lostSets, breaks, rowCount};
+ghost use Rattle.repair.specs.Found.{lotsOf, Holds};
+ghost use Rattle.solve.specs.Super.{safe, safeRow, robust, firstSuper, rowOf, tableOf};
+
+// The loss that row i of a repair table stands for: a single lot, or behind those a pair.
+fn lost_at(n: u32, i: usize) -> Lost
+    requires { ⌜ (1 ≤ n) × ((n ≤ 24) × (i < rowCount n 2)) ⌝ }
+    ensures { λ r. ⌜ lotsOf r ≡ getD (lostSets n 2) i [] ⌝ }
+{
+    let lots = n as usize;
+    if i < lots {
+        return Lost(Lot(i as u8), Lot(i as u8));
+    }
+    let mut left = i - lots;
+    let mut p: usize = 0;
+    while lots - p - 1 <= left {
+        left -= lots - p - 1;
+        p += 1;
+    }
+    Lost(Lot(p as u8), Lot((p + 1 + left) as u8))
+}
+
+// Whether each lot of a loss stands in a slot of its loss word.
+fn is_break(loss: &[u16], order: &[u8], lost: Lost) -> bool
+    ensures { λ r. ⌜ r ≡ breaks (now (loss .entry)) (now (order .entry)) (lotsOf lost) ⌝ }
+{
+    let first = lost.0;
+    let last = lost.1;
+    if !week::bit(week::word_of(loss, first), week::slot_in(order, first)) {
+        return false;
+    }
+    week::bit(week::word_of(loss, last), week::slot_in(order, last))
+}
+
+// Whether a loss is no break of the order, or has a repair.
+fn is_safe(
+    numbers: Numbers,
+    domain: &[u16],
+    loss: &[u16],
+    give: &[u16],
+    ties: &[u16],
+    order: &[u8],
+    lost: Lost,
+) -> bool
+    requires { ⌜ refusal (week numbers (now domain) (now loss) (now give) (now ties)) ≡ 0 ⌝ }
+    ensures { λ r. ⌜ r ≡ safe (week numbers (now (domain .entry)) (now (loss .entry)) (now (give .entry)) (now (ties .entry))) (now (order .entry)) (lotsOf lost) ⌝ }
+{
+    if !is_break(loss, order, lost) {
+        return true;
+    }
+    let found = repair::find_repair(numbers, domain, give, ties, order, lost);
+    found.is
+}
+
+// Whether each break of the order has a repair.
+fn is_robust(
+    numbers: Numbers,
+    domain: &[u16],
+    loss: &[u16],
+    give: &[u16],
+    ties: &[u16],
+    order: &[u8],
+) -> bool
+    requires { ⌜ refusal (week numbers (now domain) (now loss) (now give) (now ties)) ≡ 0 ⌝ }
+    ensures { λ r. ⌜ r ≡ robust (week numbers (now (domain .entry)) (now (loss .entry)) (now (give .entry)) (now (ties .entry))) (now (order .entry)) ⌝ }
+{
+    let rows = repair::row_count(numbers.n, numbers.a);
+    let mut i: usize = 0;
+    while i < rows {
+        if !is_safe(
+            numbers,
+            domain,
+            loss,
+            give,
+            ties,
+            order,
+            lost_at(numbers.n, i),
+        ) {
+            return false;
+        }
+        i += 1;
+    }
+    true
+}
+
+// The first slot of lot p from `from` on that is in its domain and stands beside every lot before p; 16 or more where there is none.
+fn pick_slot(n: u32, domain: &[u16], ties: &[u16], order: &[u8], p: Lot, from: Slot) -> Slot
+    ensures { λ r. ⌜ r .0 ≡ scanFrom 16 (fits (rules n (now (domain .entry)) (now (ties .entry))) (now (order .entry)) (p .0)) (from .0) ⌝ }
+{
+    let own = week::word_of(domain, p);
+    let before = p.0;
+    let mut v = from.0;
+    let chosen = 'slots: loop {
+        if 16 <= v {
+            break v;
+        }
+        let here = v;
+        v += 1;
+        if !week::bit(own, Slot(here)) {
+            continue 'slots;
+        }
+        let mut q: u8 = 0;
+        while q < before {
+            if !week::may_stand(n, ties, p, Slot(here), Lot(q), week::slot_in(order, Lot(q))) {
+                continue 'slots;
+            }
+            q += 1;
+        }
+        break here;
+    };
+    Slot(chosen)
+}
+
+// The first super solution: lot after lot, back one lot where no slot is left; a full order is judged by its breaks.
+fn find_super(numbers: Numbers, domain: &[u16], loss: &[u16], give: &[u16], ties: &[u16]) -> Found
+    requires { ⌜ refusal (week numbers (now domain) (now loss) (now give) (now ties)) ≡ 0 ⌝ }
+    ensures { λ r. ⌜ Holds (firstSuper (week numbers (now (domain .entry)) (now (loss .entry)) (now (give .entry)) (now (ties .entry)))) r ⌝ }
+{
+    let n = numbers.n as usize;
+    let mut slots = [0u8; 24];
+    let mut d: usize = 0;
+    let mut from: u8 = 0;
+    'lots: loop {
+        let chosen = pick_slot(numbers.n, domain, ties, &slots, Lot(d as u8), Slot(from));
+        let v = chosen.0;
+        if v < 16 {
+            slots[d] = v;
+            if d + 1 == n {
+                if is_robust(numbers, domain, loss, give, ties, &slots[..n]) {
+                    return Found {
+                        is: true,
+                        order: Order { slots },
+                    };
+                }
+                from = v + 1;
+                continue 'lots;
+            }
+            d += 1;
+            from = 0;
+            continue 'lots;
+        }
+        if d == 0 {
+            return Found {
+                is: false,
+                order: Order { slots: [0; 24] },
+            };
+        }
+        d -= 1;
+        from = slots[d] + 1;
+    }
+}
+
+// The row of a loss: the order, and over it the first repair if the loss is a break.
+fn put_row(
+    numbers: Numbers,
+    domain: &[u16],
+    loss: &[u16],
+    give: &[u16],
+    ties: &[u16],
+    order: &[u8],
+    lost: Lost,
+    row: &mut [u8],
+)
+    requires { ⌜ (refusal (week numbers (now domain) (now loss) (now give) (now ties)) ≡ 0) × ((length (now order) ≡ numbers .n) × (length (now row) ≡ numbers .n)) ⌝ }
+    ensures { λ _. ⌜ now (row .exit) ≡ rowOf (week numbers (now (domain .entry)) (now (loss .entry)) (now (give .entry)) (now (ties .entry))) (now (order .entry)) (lotsOf lost) ⌝ }
+{
+    repair::copy_slots(order, row);
+    if !is_break(loss, order, lost) {
+        return;
+    }
+    repair::hand_out(
+        repair::find_repair(numbers, domain, give, ties, order, lost),
+        row,
+    );
+}
+
+// Every row of the repair table, one behind the other.
+fn put_rows(
+    numbers: Numbers,
+    domain: &[u16],
+    loss: &[u16],
+    give: &[u16],
+    ties: &[u16],
+    order: &[u8],
+    table: &mut [u8],
+)
+    requires { ⌜ (refusal (week numbers (now domain) (now loss) (now give) (now ties)) ≡ 0) × ((length (now order) ≡ numbers .n) × (length (now table) ≡ rowCount (numbers .n) (numbers .a) * numbers .n)) ⌝ }
+    ensures { λ _. ⌜ now (table .exit) ≡ tableOf (week numbers (now (domain .entry)) (now (loss .entry)) (now (give .entry)) (now (ties .entry))) (now (order .entry)) ⌝ }
+{
+    let n = numbers.n as usize;
+    let rows = repair::row_count(numbers.n, numbers.a);
+    let mut i: usize = 0;
+    while i < rows {
+        let from = i * n;
+        let to = from + n;
+        put_row(
+            numbers,
+            domain,
+            loss,
+            give,
+            ties,
+            order,
+            lost_at(numbers.n, i),
+            &mut table[from..to],
+        );
+        i += 1;
+    }
+}
+
+// Refusals 1 to 4 of a service that is handed an order and its table.
+fn table_admits(
+    numbers: Numbers,
+    domain: &[u16],
+    loss: &[u16],
+    give: &[u16],
+    ties: &[u16],
+    order: &[u8],
+    table: &[u8],
+) -> u32
+    ensures { λ r. ⌜ r ≡ admits true (rowLengths (numbers .n) (numbers .a) (now (order .entry)) (now (table .entry))) (week numbers (now (domain .entry)) (now (loss .entry)) (now (give .entry)) (now (ties .entry))) ⌝ }
+{
+    let judged = week::judge(numbers, domain, loss, give, ties);
+    if judged == 1 {
+        return 1;
+    }
+    week::join(
+        true,
+        repair::row_lengths(numbers.n, numbers.a, order, table),
+        judged,
+    )
+}
+
+// The first super solution into `order` and its repair table into `table`. Answers 0, or the refusal: 1, 2, 3, 4 or 5; refused, both
+// are as they were.
+pub fn solve(
+    numbers: Numbers,
+    domain: &[u16],
+    loss: &[u16],
+    give: &[u16],
+    ties: &[u16],
+    order: &mut [u8],
+    table: &mut [u8],
+) -> u32
+    ensures { λ r. ⌜ Solved (week numbers (now (domain .entry)) (now (loss .entry)) (now (give .entry)) (now (ties .entry))) (now (order .entry)) (now (table .entry)) r (now (order .exit)) (now (table .exit)) ⌝ }
+{
+    let refused = table_admits(numbers, domain, loss, give, ties, order, table);
+    if refused != 0 {
+        return refused;
+    }
+    let found = find_super(numbers, domain, loss, give, ties);
+    if !found.is {
+        return 5;
+    }
+    repair::hand_out(found, order);
+    put_rows(numbers, domain, loss, give, ties, order, table);
+    0
+}

@@ -1,0 +1,105 @@
+-- Each answer of the service solve, from what the code knows where it gives it.
+-- Assumes nothing.
+use mathlib.Core.Path.{_≡_, refl, sym, _∙_, ap}
+use mathlib.Core.Bool.{Bool, true, false, cond, true≢false}
+use mathlib.Core.List.{List}
+use mathlib.Core.Option.{Option, none, some}
+use Prim.Native.Nat.{ℕ, _*_, _≤_}
+use native.Mathlib.Omega.{arith}
+use lib.Dec.{eqb}
+use lib.ListN.{length, take}
+use borrow.Author.Tests.{eqb-true, eq-eqb, ne-eqb}
+use Rattle.lex.specs.First.{isFound, orOld}
+use Rattle.lex.proofs.Every.{and-left, and-right}
+use Rattle.lex.proofs.First.{first-some}
+use Rattle.week.specs.Rules.{keeps}
+use Rattle.week.specs.Tables.{Week, lots, pairRules, numbersOk, admits, refusal, joined}
+use Rattle.week.proofs.Rules.{keeps-closed}
+use Rattle.week.proofs.Tables.{Limits, limits, accepted, joined-admits, admits-two, admits-tables, halts, runs-on, stops, stops-last, goes-off}
+use Rattle.repair.specs.Break.{rowCount}
+use Rattle.repair.specs.Service.{rowLengths}
+use Rattle.repair.specs.Found.{padded}
+use Rattle.repair.proofs.Mends.{padded-wide, padded-take}
+use Rattle.solve.specs.Super.{robust, firstSuper, tableOf}
+use Rattle.solve.specs.Service.{solveAnswer, solveOrder, solveTable, Solved}
+
+-- numbers that are not refused by 1 are within their limits, whatever the tables
+pub numbers-fine : (W : Week) → (refusal W ≡ 1 → ⊥) → Limits (W .numbers)
+unfolding admits
+numbers-fine W h = go (numbersOk (W .numbers)) refl
+  where
+    go : (t : Bool) → numbersOk (W .numbers) ≡ t → Limits (W .numbers)
+    go true e = limits (W .numbers) e
+    go false e = absurd (h (sym (stops (numbersOk (W .numbers)) 1 _ e (λ z. omega arith))))
+
+-- numbers that are refused by 1 are so for every service
+pub numbers-refused : (W : Week) (two : Bool) → refusal W ≡ 1 → 1 ≡ admits true two W
+unfolding joined
+numbers-refused W two e = sym (ap (joined true two) e) ∙ joined-admits true two W
+
+module _ (W : Week) (order table : List ℕ) where
+  abbrev two : Bool
+  two = rowLengths (lots W) (W .numbers .a) order table
+
+  refused : (k : ℕ) → k ≡ solveAnswer W order table → (k ≡ 0 → ⊥) → Solved W order table k order table
+  unfolding solveOrder solveTable
+  refused k e h = let n = ne-eqb (solveAnswer W order table) 0 (λ z. h (e ∙ z)) in record { answer = e; solution = rw n; repairs = rw n }
+
+  pub by-tables : (k : ℕ) → k ≡ admits true two W → (k ≡ 0 → ⊥) → Solved W order table k order table
+  unfolding solveAnswer
+  by-tables k e h = refused k (halts (admits true two W) _ e h) h
+
+  -- what a call knows that is not refused by 1 to 4
+  pub record Ready : Type 0 where
+    pub admitted : admits true two W ≡ 0
+    pub fine : refusal W ≡ 0
+    pub size : length order ≡ lots W
+    pub room : length table ≡ rowCount (lots W) (W .numbers .a) * lots W
+
+  pub ready : admits true two W ≡ 0 → Ready
+  unfolding rowLengths
+  ready e =
+      let l = admits-two true two W e in
+      record {
+        admitted = e;
+        fine = admits-tables true two W e;
+        size = eqb-true (length order) (lots W) (and-left (eqb (length order) (lots W)) (eqb (length table) (rowCount (lots W) (W .numbers .a) * lots W)) l);
+        room = eqb-true (length table) (rowCount (lots W) (W .numbers .a) * lots W) (and-right (eqb (length order) (lots W)) (eqb (length table) (rowCount (lots W) (W .numbers .a) * lots W)) l);
+      }
+
+  module _ (known : Ready) where
+    pub by-none : isFound (firstSuper W) ≡ false → Solved W order table 5 order table
+    unfolding solveAnswer
+    by-none e = refused 5 (runs-on (admits true two W) _ (known .admitted) (stops-last (isFound (firstSuper W)) 5 e)) (λ z. omega arith)
+
+    long : (r : List ℕ) → firstSuper W ≡ some r → length r ≡ lots W
+    unfolding firstSuper
+    long r e = first-some (keeps (pairRules W)) (robust W) 16 (keeps-closed (pairRules W)) (lots W) r e .len
+
+    -- what was found has room for the order's lots
+    pub wide : (slots : List ℕ) → slots ≡ padded (firstSuper W) → length order ≤ length slots
+    wide slots e = rw (e, known .size) (padded-wide (lots W) (firstSuper W) (accepted W (known .fine) .limits .few) long)
+
+    module _ (found : isFound (firstSuper W) ≡ true) (slots o : List ℕ) (is : Bool) (yes-found : is ≡ true) (held : slots ≡ padded (firstSuper W)) (put : o ≡ cond is (take (length order) slots) order) where
+      -- the order that was put is the first super solution
+      put-order : o ≡ orOld (firstSuper W) order
+      put-order = put ∙ rw (yes-found, held, known .size) (go (firstSuper W) refl found)
+        where
+          go : (a : Option (List ℕ)) → firstSuper W ≡ a → isFound a ≡ true → take (lots W) (padded a) ≡ orOld a order
+          go none e f = absurd (true≢false (sym f))
+          go (some r) e f = padded-take (lots W) r (long r e)
+
+      pub put-size : length o ≡ lots W
+      put-size = rw put-order (go (firstSuper W) refl)
+        where
+          go : (a : Option (List ℕ)) → firstSuper W ≡ a → length (orOld a order) ≡ lots W
+          go none e = known .size
+          go (some r) e = long r e
+
+      answered : 0 ≡ solveAnswer W order table
+      unfolding solveAnswer
+      answered = runs-on (admits true two W) _ (known .admitted) (goes-off (isFound (firstSuper W)) 5 found)
+
+      pub by-search : (t : List ℕ) → t ≡ tableOf W o → Solved W order table 0 o t
+      unfolding solveOrder solveTable
+      by-search t e = record { answer = answered; solution = rw (eq-eqb (solveAnswer W order table) 0 (sym answered)) put-order; repairs = rw (eq-eqb (solveAnswer W order table) 0 (sym answered)) (e ∙ ap (tableOf W) put-order) }
