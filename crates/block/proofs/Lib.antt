@@ -1,0 +1,15 @@
+pub mod Parts
+pub mod Fnv
+pub mod Sizes
+pub mod Content
+pub mod File
+pub mod Writing
+pub mod Checks
+pub mod Pairs
+pub mod Ties
+pub mod Given
+pub mod Vectors
+pub mod RoundTrip
+pub mod WriteBack
+pub mod Change
+pub mod Services

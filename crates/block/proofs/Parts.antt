@@ -1,0 +1,140 @@
+-- Laws of lists by position, of loops that fill a buffer from the front, and of pairs by number.
+-- Assumes nothing.
+use mathlib.Core.Path.{_≡_, refl, sym, _∙_, ap}
+use mathlib.Core.List.{List, [], _∷_, _++_, append-nil}
+use Prim.Native.Nat.{ℕ, zero, suc, _+_, _-_, _≤_, _<_}
+use native.Mathlib.Omega.{arith}
+use native.Mathlib.Nat.{zero-add, suc-add, sub-zero}
+use native.Mathlib.Numerals.{add-one}
+use lib.ListN.{length, getD, set, take, drop, drop-of-length-le, length-append, length-drop, take-append-drop, List·getD-eq-default}
+use lib.Seq.{ext-getD, length-take-le}
+use borrow.Author.Tests.{lt-ltb, le-ltb}
+use Rattle.block.specs.Parts.{listOf, orZero, Pair, pair, pairFrom, pairsBefore}
+
+-- Lists by position
+
+pub length-list : (f : ℕ → ℕ) (n : ℕ) → length (listOf f n) ≡ n
+unfolding listOf
+length-list f zero = refl
+length-list f (suc n) = ap suc (length-list (λ i. f (suc i)) n)
+
+pub list-at : (f : ℕ → ℕ) (n i : ℕ) → i < n → getD (listOf f n) i 0 ≡ f i
+unfolding listOf
+list-at f zero i l = absurd (omega arith)
+list-at f (suc n) zero l = refl
+list-at f (suc n) (suc i) l = list-at (λ i. f (suc i)) n i (omega arith)
+
+pub list-beyond : (f : ℕ → ℕ) (n i : ℕ) → n ≤ i → getD (listOf f n) i 0 ≡ 0
+list-beyond f n i l = List·getD-eq-default (listOf f n) 0 (let h = length-list f n in omega arith)
+
+pub list-cong : (f g : ℕ → ℕ) (n : ℕ) → ((i : ℕ) → i < n → f i ≡ g i) → listOf f n ≡ listOf g n
+unfolding listOf
+list-cong f g zero h = refl
+list-cong f g (suc n) h = rw (h 0 (omega arith), list-cong (λ i. f (suc i)) (λ i. g (suc i)) n (λ i l. h (suc i) (omega arith)))
+
+pub or-zero : (s : List ℕ) (i : ℕ) → orZero s i ≡ getD s i 0
+unfolding orZero
+or-zero s i = refl
+
+-- the first m and the k after them
+pub list-join : (f : ℕ → ℕ) (m k : ℕ) → listOf f (m + k) ≡ listOf f m ++ listOf (λ i. f (m + i)) k
+unfolding listOf
+list-join f zero k = simp zero-add
+list-join f (suc m) k = simp suc-add (ap (λ (t : List ℕ). f 0 ∷ t) (list-join (λ i. f (suc i)) m k))
+
+-- a list is the list of what stands at its places
+pub list-self : (s : List ℕ) → listOf (orZero s) (length s) ≡ s
+list-self s = ext-getD 0 (listOf (orZero s) (length s)) s (length-list (orZero s) (length s)) (λ i l. list-at (orZero s) (length s) i (let h = length-list (orZero s) (length s) in omega arith) ∙ or-zero s i)
+
+-- A loop that fills a buffer d from the front: after i stores it holds f 0 .. f (i - 1), and then the rest of d
+
+store-next : (f : ℕ → ℕ) (i : ℕ) (d : List ℕ) → i < length d → set (listOf f i ++ drop i d) i (f i) ≡ listOf f (suc i) ++ drop (suc i) d
+unfolding listOf
+store-next f i [] l = absurd (omega arith)
+store-next f zero (x ∷ d) l = refl
+store-next f (suc i) (x ∷ d) l = ap (λ (t : List ℕ). f 0 ∷ t) (store-next (λ i. f (suc i)) i d (omega arith))
+
+pub store-more : (f : ℕ → ℕ) {i x : ℕ} {s : List ℕ} (d : List ℕ) → i < length d → s ≡ listOf f i ++ drop i d → x ≡ f i → set s i x ≡ listOf f (i + 1) ++ drop (i + 1) d
+store-more f {i} d l e h = rw (e, h, add-one) (store-next f i d l)
+
+pub store-none : (f : ℕ → ℕ) (d : List ℕ) → d ≡ listOf f 0 ++ drop 0 d
+unfolding listOf
+store-none f d = refl
+
+pub store-length : (f : ℕ → ℕ) {i : ℕ} {s : List ℕ} (d : List ℕ) → i ≤ length d → s ≡ listOf f i ++ drop i d → length s ≡ length d
+store-length f {i} d l e = ap length e ∙ (length-append (listOf f i) (drop i d) ∙ (let h = length-list f i in let k = length-drop i d in omega arith))
+
+pub store-stop : (f : ℕ → ℕ) {i n : ℕ} {s : List ℕ} (d : List ℕ) → s ≡ listOf f i ++ drop i d → i ≡ n → s ≡ listOf f n ++ drop n d
+store-stop f d e h = rw h at e
+
+pub store-end : (f : ℕ → ℕ) {i n : ℕ} {s : List ℕ} (d : List ℕ) → s ≡ listOf f i ++ drop i d → i ≡ n → length d ≡ n → s ≡ listOf f n
+store-end f {i} {n} d e h l = e ∙ rw (h, drop-of-length-le d {i = n} (omega arith)) (append-nil (listOf f n))
+
+-- the same behind the first m places
+
+set-behind : (pre t : List ℕ) (j x : ℕ) → set (pre ++ t) (length pre + j) x ≡ pre ++ set t j x
+set-behind [] t j x = simp zero-add
+set-behind (y ∷ pre) t j x = simp suc-add (ap (λ (l : List ℕ). y ∷ l) (set-behind pre t j x))
+
+module _ (m : ℕ) (f : ℕ → ℕ) (d : List ℕ) where
+  pub behind-none : d ≡ take m d ++ (listOf f 0 ++ drop 0 (drop m d))
+  unfolding listOf
+  behind-none = sym (take-append-drop m d)
+
+  pub behind-more : {j x : ℕ} {s : List ℕ} → m + j < length d → s ≡ take m d ++ (listOf f j ++ drop j (drop m d)) → x ≡ f j → set s (m + j) x ≡ take m d ++ (listOf f (j + 1) ++ drop (j + 1) (drop m d))
+  behind-more {j} {x} {s} l e h =
+      let k : length (take m d) ≡ m = length-take-le m d (omega arith) in
+      ap (λ (t : List ℕ). set t (m + j) x) e
+      ∙ (ap (λ (n : ℕ). set (take m d ++ (listOf f j ++ drop j (drop m d))) (n + j) x) (sym k)
+      ∙ (set-behind (take m d) (listOf f j ++ drop j (drop m d)) j x
+      ∙ ap (λ (t : List ℕ). take m d ++ t) (store-more f (drop m d) (simp length-drop (omega arith)) refl h)))
+
+  pub behind-end : {j n : ℕ} {s : List ℕ} → s ≡ take m d ++ (listOf f j ++ drop j (drop m d)) → j ≡ n → length d ≡ m + n → s ≡ take m d ++ listOf f n
+  behind-end {j} {n} e h l = e ∙ ap (λ (t : List ℕ). take m d ++ t) (store-end f (drop m d) refl h (simp length-drop (omega arith)))
+
+-- Pairs by number
+
+pub pair-here : (after p left : ℕ) → left < after → pairFrom after p left ≡ pair p (p + 1 + left)
+unfolding pairFrom
+pair-here zero p left l = absurd (omega arith)
+pair-here (suc m) p left l = rw (lt-ltb left (suc m) l, add-one)
+
+pub pair-later : (after p left : ℕ) → 0 < after → after ≤ left → pairFrom after p left ≡ pairFrom (after - 1) (p + 1) (left - after)
+unfolding pairFrom
+pair-later zero p left h l = absurd (omega arith)
+pair-later (suc m) p left h l =
+    let e : suc m - 1 ≡ m = omega arith in
+    rw (le-ltb left (suc m) l, add-one, e)
+
+-- the pair looked for is one of this lot's
+pub pair-found : (after p left : ℕ) {P : Pair} → pairFrom after p left ≡ P → left < after → (p ≡ P .low) × (p + 1 + left ≡ P .high)
+pair-found after p left e l = let f = sym (pair-here after p left l) ∙ e in (ap (λ (x : Pair). x .low) f, ap (λ (x : Pair). x .high) f)
+
+pair-none : (p left : ℕ) → pairFrom 0 p left ≡ pair p p
+unfolding pairFrom
+pair-none p left = refl
+
+-- no lot stands after this one
+pub pair-lost : {after p : ℕ} (left : ℕ) {P : Pair} → pairFrom after p left ≡ P → after ≡ 0 → (p ≡ P .low) × (p ≡ P .high)
+pair-lost {after} {p} left e z = let f = sym (ap (λ (m : ℕ). pairFrom m p left) z ∙ pair-none p left) ∙ e in (ap (λ (x : Pair). x .low) f, ap (λ (x : Pair). x .high) f)
+
+-- one lot's pairs, where lots k to p - 1 are still to count
+pub before-next : (m k p : ℕ) → k < p → pairsBefore m (p - k) ≡ m + pairsBefore (m - 1) (p - (k + 1))
+unfolding pairsBefore
+before-next m k p l =
+    let e : p - k ≡ suc (p - (k + 1)) = omega arith in
+    rw e
+
+pub before-none : (m : ℕ) → pairsBefore m 0 ≡ 0
+unfolding pairsBefore
+before-none m = refl
+
+pub before-start : (m p : ℕ) → 0 + pairsBefore m (p - 0) ≡ pairsBefore m p
+before-start m p = zero-add (pairsBefore m (p - 0)) ∙ ap (pairsBefore m) (sub-zero p)
+
+pub before-end : (before m k p : ℕ) {x : ℕ} → before + pairsBefore m (p - k) ≡ x → k ≡ p → before ≡ x
+before-end before m k p e h =
+    let z : p - k ≡ 0 = omega arith in
+    let f = before-none m in
+    let g = ap (pairsBefore m) z in
+    omega arith

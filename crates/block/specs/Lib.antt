@@ -1,0 +1,5 @@
+pub mod Fnv
+pub mod Parts
+pub mod Content
+pub mod File
+pub mod Reading
