@@ -81,9 +81,9 @@ fn is_robust(
     requires { ⌜ refusal (week numbers (now domain) (now loss) (now give) (now ties)) ≡ 0 ⌝ }
     ensures { λ r. ⌜ r ≡ robust (week numbers (now (domain .entry)) (now (loss .entry)) (now (give .entry)) (now (ties .entry))) (now (order .entry)) ⌝ }
 {
-    let rows = repair::row_count(numbers.n, numbers.a);
+    let sets = repair::row_count(numbers.n, numbers.a);
     let mut i: usize = 0;
-    while i < rows {
+    while i < sets {
         if !is_safe(
             numbers,
             domain,

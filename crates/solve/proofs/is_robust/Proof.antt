@@ -1,4 +1,4 @@
--- `solve::is_robust` meets its contract: the sets of the rows passed are safe.
+-- `solve::is_robust` meets its contract: the sets passed are safe.
 -- Assumes nothing.
 use mathlib.Core.Path.{_≡_, sym, _∙_}
 use mathlib.Core.Bool.{true}
@@ -18,10 +18,10 @@ use Rattle.solve.proofs.is_robust.Statement.{statement}
 use Rattle.solve.proofs.is_robust.Tie as tie
 
 abbrev Inv-loop : tie.InvT-loop
-Inv-loop numbers domain loss give ties order rows i₀ i = (i ≤ rows) × (every (safeRow (week numbers domain loss give ties) order) i ≡ true)
+Inv-loop numbers domain loss give ties order sets i₀ i = (i ≤ sets) × (every (safeRow (week numbers domain loss give ties) order) i ≡ true)
 
 abbrev μ-loop : tie.MeasureT-loop
-μ-loop numbers domain loss give ties order rows i₀ i = rows - i
+μ-loop numbers domain loss give ties order sets i₀ i = sets - i
 
 abbrev S : Type 0
 S = tie.After-is-safe Inv-loop μ-loop
