@@ -5,4 +5,3 @@ pub mod Near
 pub mod Held
 pub mod Stale
 pub mod EitherWay
-pub mod History

@@ -39,7 +39,7 @@ WellFormed a = 1 ≤ a → a ≤ 11 → ⊥
 unfoldable pub shifted : Sheet → Sheet → ℕ → Bool
 shifted S T p = not (eqb (getD (S .order) p 0) (getD (T .order) p 0))
 
--- some call of a history moves lot p; only an accepted save can (proofs/History.antt, `refused-nothing`)
+-- some call of a history moves lot p; only an accepted save can (`refused-nothing` of crate `demands`)
 unfoldable pub movedIn : Week → Sheet → List Call → ℕ → Bool
 movedIn W S [] p = false
 movedIn W S (x ∷ h) p = shifted S (step W S x) p || movedIn W (step W S x) h p
