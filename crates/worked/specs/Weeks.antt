@@ -12,6 +12,9 @@ use Rattle.week.specs.Rules.{bitOf, wordOf}
 use Rattle.week.specs.Tables.{Week, week, refusal}
 use Rattle.repair.specs.Break.{lotsFrom}
 use Rattle.solve.specs.Super.{repairFor, isSuper, firstSuper, rows}
+use Rattle.sheet.specs.declared.Sheet.{Sheet}
+use Rattle.sheet.specs.Sheet.{opened, copied, saved}
+use Rattle.sheet.specs.History.{Call, copying, saving, after, orderOf}
 
 -- Tables from a rule
 
@@ -77,6 +80,7 @@ pub data Claim : Type 0 where
   super : List ℕ → Claim
   notSuper : List ℕ → Claim
   repaired : List ℕ → List ℕ → List ℕ → Claim
+  shared : List ℕ → List Call → List ℕ → List ℕ → ℕ → Claim
 
 unfoldable pub sameOrder : List ℕ → List ℕ → Bool
 sameOrder [] [] = true
@@ -99,12 +103,23 @@ unfoldable pub answersNone : Option (List ℕ) → Bool
 answersNone none = true
 answersNone (some s) = false
 
+-- what the calls on a sheet answer, a copy with its copy number behind its answer
+unfoldable pub replies : Week → Sheet → List Call → List ℕ
+replies W S [] = []
+replies W S (copying ∷ h) = copied W S .answer ∷ copied W S .copy ∷ replies W S h
+replies W S (saving c m ∷ h) = saved W S c m .answer ∷ replies W (saved W S c m .sheet) h
+
+-- a sheet that is not refused answers k and ends with order s and save number i
+unfoldable pub ends : Week → Sheet → List Call → List ℕ → List ℕ → ℕ → Bool
+ends W S h k s i = sameOrder (replies W S h) k && (sameOrder (orderOf W (after W S h)) s && eqb (after W S h .saves) i)
+
 unfoldable pub holds : Week → Claim → Bool
 holds W (solves s t) = answers (λ o. sameOrder o s && sameRows (rows W o) t) (firstSuper W)
 holds W unsolved = answersNone (firstSuper W)
 holds W (super s) = isSuper W s
 holds W (notSuper s) = not (isSuper W s)
 holds W (repaired s lost r) = answers (sameOrder r) (repairFor W s lost)
+holds W (shared o h k s i) = eqb (opened W o .answer) 0 && ends W (opened W o .sheet) h k s i
 
 pub record Worked : Type 0 where
   pub tables : Week
@@ -155,5 +170,18 @@ worked =
     ∷ of earlier
     (repaired (1 ∷ 1 ∷ []) (0 ∷ []) (3 ∷ 1 ∷ [])
     ∷ repaired (1 ∷ 2 ∷ []) (0 ∷ []) (2 ∷ 2 ∷ [])
+    ∷ [])
+    -- a sheet at 1 2 3 with two copies: lots 2 and 0 are not tied and move each from its copy; lot 1 is tied to lot 2 and comes too late
+    ∷ of (weekF (numbers 3 1 0 0 0) three)
+    (shared (1 ∷ 2 ∷ 3 ∷ [])
+    (copying ∷ copying ∷ saving 0 (2 ∷ 2 ∷ []) ∷ saving 0 (0 ∷ 2 ∷ []) ∷ [])
+    (0 ∷ 0 ∷ 0 ∷ 0 ∷ 0 ∷ 0 ∷ [])
+    (2 ∷ 2 ∷ 2 ∷ [])
+    2
+    ∷ shared (1 ∷ 2 ∷ 3 ∷ [])
+    (copying ∷ copying ∷ saving 0 (2 ∷ 2 ∷ []) ∷ saving 0 (1 ∷ 3 ∷ []) ∷ [])
+    (0 ∷ 0 ∷ 0 ∷ 0 ∷ 0 ∷ 12 ∷ [])
+    (1 ∷ 2 ∷ 2 ∷ [])
+    1
     ∷ [])
     ∷ []
