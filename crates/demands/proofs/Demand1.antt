@@ -9,8 +9,8 @@ use lib.Dec.{eqb, ltb, leb}
 use lib.ListN.{length, take, drop}
 use borrow.Author.Tests.{ne-eqb}
 use Rattle.lex.specs.Every.{someOf}
-use Rattle.week.specs.Refusal.{unless, orElse}
 use Rattle.lex.specs.First.{isFound}
+use Rattle.week.specs.Refusal.{unless, orElse}
 use Rattle.week.specs.Rules.{keeps}
 use Rattle.week.specs.Tables.{Week, lots, pairRules, numbersOk, lengthsOk, wordsOk, tiesOk, admits}
 use Rattle.repair.specs.Break.{lostOk}

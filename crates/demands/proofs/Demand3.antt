@@ -21,14 +21,12 @@ use Rattle.sheet.proofs.Placing.{every-all}
 use Rattle.sheet.proofs.Stale.{one-more, stale-then, stale-if}
 use Rattle.sheet.proofs.EitherWay.{first-passed, second-passed, same-order, same-saves}
 use Rattle.sheet.proofs.Held.{Held, held-open, open-saves, outcome, taken, refused, taken-sheet, answered, answers, mark-low, copy-done, copy-number, held-step, held-after}
+use Rattle.demands.proofs.Demand1.{save-answered}
 
 -- Refused calls change nothing
 
 pub refused-nothing : (W : Week) (S : Sheet) (c : ℕ) (m : List ℕ) → (saved W S c m .answer ≡ 0 → ⊥) → saved W S c m .sheet ≡ S
-refused-nothing W S c m h = elim (outcome W S c m) [
-  | taken e f ↦ absurd (h e)
-  | refused e f ↦ f
-]
+refused-nothing W S c m = save-answered W S c m .unchanged
 
 -- 1: at every moment the order keeps every pair rule
 
