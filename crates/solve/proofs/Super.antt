@@ -3,6 +3,7 @@
 use mathlib.Core.Path.{_≡_, refl, sym, _∙_, ap}
 use mathlib.Core.Bool.{Bool, true, false, _&&_, cond}
 use mathlib.Core.List.{List, []}
+use mathlib.Core.Option.{Option}
 use Prim.Native.Nat.{ℕ, _≤_, _<_}
 use native.Mathlib.Omega.{arith}
 use native.Mathlib.Decide.{decLt}
@@ -11,21 +12,20 @@ use lib.ListN.{length, getD}
 use borrow.Author.Tests.{lt-ltb, le-ltb}
 use Rattle.lex.specs.Every.{everyOf, every}
 use Rattle.lex.specs.First.{isFound, Passes}
-use Rattle.lex.proofs.Every.{both, and-left, and-right, imp-in, imp-out, everyOf-append, everyOf-imp}
-use Rattle.week.specs.Rules.{keeps, keepsHalf}
-use Rattle.week.specs.Tables.{Week, lots, pairRules, refusal}
-use Rattle.repair.specs.Break.{singles, pairs, lostSets, breaks, rowCount}
-use Rattle.repair.specs.Repair.{case, replaces, yields, helps, mayGo, moves, goesAt, movesAt, repairHalf}
-use Rattle.repair.proofs.Mends.{mends-read, mends-make, repair-found, found-repair, repair-half}
-use mathlib.Core.Option.{Option}
 use Rattle.lex.specs.Dictionary.{Meets}
+use Rattle.lex.proofs.Every.{both, and-left, and-right, imp-in, imp-out, everyOf-append, everyOf-imp}
 use Rattle.lex.proofs.Dictionary.{under-all}
 use Rattle.lex.proofs.First.{first-is, first-same}
 use Rattle.lex.proofs.Search.{Space, passes-space}
+use Rattle.week.specs.Rules.{keeps, keepsHalf}
+use Rattle.week.specs.Tables.{Week, lots, pairRules, refusal}
 use Rattle.week.proofs.Rules.{keeps-closed, half-closed, half-below}
 use Rattle.week.proofs.Tables.{accepted, accepted-keeps}
-use Rattle.solve.proofs.Rows.{every-row, set-fewer}
+use Rattle.repair.specs.Break.{singles, pairs, lostSets, breaks, rowCount}
+use Rattle.repair.specs.Repair.{case, replaces, yields, helps, mayGo, moves, goesAt, movesAt, repairHalf}
+use Rattle.repair.proofs.Mends.{mends-read, mends-make, repair-found, found-repair, repair-half}
 use Rattle.solve.specs.Super.{safeRow, firstSuper, isBreak, repairFor, safe, robust, isSuper}
+use Rattle.solve.proofs.Rows.{every-row, set-fewer}
 
 -- the week with other numbers a and b
 abbrev pub allow : Week → ℕ → ℕ → Week
@@ -38,7 +38,7 @@ allow W a b = record {
 }
 
 -- the tests of every set, by kind of set
-sets-read : (f : List ℕ → Bool) (n a : ℕ) → everyOf f (lostSets n a) ≡ true → (0 < a → everyOf f (singles n) ≡ true) × (1 < a → everyOf f (pairs n) ≡ true)
+pub sets-read : (f : List ℕ → Bool) (n a : ℕ) → everyOf f (lostSets n a) ≡ true → (0 < a → everyOf f (singles n) ≡ true) × (1 < a → everyOf f (pairs n) ≡ true)
 unfolding lostSets
 sets-read f n a e =
     let g = sym (everyOf-append f (cond (ltb 0 a) (singles n) []) (cond (ltb 1 a) (pairs n) [])) ∙ e in (
@@ -46,7 +46,7 @@ sets-read f n a e =
       λ h. rw (lt-ltb 1 a h) at (and-right (everyOf f (cond (ltb 0 a) (singles n) [])) (everyOf f (cond (ltb 1 a) (pairs n) [])) g),
     )
 
-sets-make : (f : List ℕ → Bool) (n a : ℕ) → (0 < a → everyOf f (singles n) ≡ true) → (1 < a → everyOf f (pairs n) ≡ true) → everyOf f (lostSets n a) ≡ true
+pub sets-make : (f : List ℕ → Bool) (n a : ℕ) → (0 < a → everyOf f (singles n) ≡ true) → (1 < a → everyOf f (pairs n) ≡ true) → everyOf f (lostSets n a) ≡ true
 unfolding lostSets everyOf
 sets-make f n a g h = everyOf-append f (cond (ltb 0 a) (singles n) []) (cond (ltb 1 a) (pairs n) []) ∙ both (kind 0 (singles n) g) (kind 1 (pairs n) h)
   where
