@@ -1,10 +1,11 @@
 -- Demand 1: every call is answered by its result or by one of its refusals, and a refused call leaves what was lent as it was. That every
 -- call ends is the contracts' part: none has a `requires`.
 -- Assumes nothing.
-use mathlib.Core.Path.{_≡_, refl, sym, _∙_, ap, ap₂}
+use mathlib.Core.Path.{_≡_, refl, sym, _∙_, ap, ap₂, subst}
 use mathlib.Core.Bool.{Bool, true, false, _&&_, cond}
 use mathlib.Core.List.{List, [], _∷_}
 use Prim.Native.Nat.{ℕ, zero, suc, _+_, _*_, _/_}
+use native.Mathlib.Omega.{arith}
 use lib.Dec.{eqb, ltb, leb}
 use lib.ListN.{length, take, drop}
 use borrow.Author.Tests.{ne-eqb}
@@ -33,7 +34,7 @@ kept k x y h = ap (λ (t : Bool). cond t x y) (ne-eqb k 0 h)
 
 -- A chain of checks answers with their numbers
 module _ (l : List ℕ) where
-  link : (ok : Bool) (k : ℕ) → someOf (eqb k) (0 ∷ l) ≡ true → Among l (unless ok k)
+  pub link : (ok : Bool) (k : ℕ) → someOf (eqb k) (0 ∷ l) ≡ true → Among l (unless ok k)
   unfolding someOf
   link true k h = record { is = refl }
   link false k h = record { is = h }
@@ -45,13 +46,18 @@ module _ (l : List ℕ) where
       go true = hb
       go false = ha
 
-  admitted : (one two : Bool) (W : Week) → someOf (eqb 1) (0 ∷ l) ≡ true → someOf (eqb 2) (0 ∷ l) ≡ true → someOf (eqb 3) (0 ∷ l) ≡ true → someOf (eqb 4) (0 ∷ l) ≡ true → Among l (admits one two W)
+  pub admitted : (one two : Bool) (W : Week) → someOf (eqb 1) (0 ∷ l) ≡ true → someOf (eqb 2) (0 ∷ l) ≡ true → someOf (eqb 3) (0 ∷ l) ≡ true → someOf (eqb 4) (0 ∷ l) ≡ true → Among l (admits one two W)
   unfolding admits
   admitted one two W h1 h2 h3 h4 =
       chain _ _ (link (one && numbersOk (W .numbers)) 1 h1)
       (chain _ _ (link (two && lengthsOk (lots W) (W .domain) (W .loss) (W .give) (W .ties)) 2 h2)
       (chain _ _ (link (wordsOk (lots W) (W .domain) (W .loss) (W .give)) 3 h3)
       (link (tiesOk (pairRules W)) 4 h4)))
+
+-- a chain that answers c, which is no answer of its first check, passed that check
+pub passes-over : (l : List ℕ) (a b c : ℕ) → Among l a → (Among l c → ⊥) → orElse a b ≡ c → (a ≡ 0) × (b ≡ c)
+passes-over l zero b c h k e = (refl, e)
+passes-over l (suc a) b c h k e = absurd (k (subst (Among l) (sym (ap (λ (t : Bool). cond t b (suc a)) (ne-eqb (suc a) 0 (λ z. omega arith))) ∙ e) h))
 
 -- Planning
 

@@ -1,0 +1,39 @@
+-- Demand 2: super solutions in plain words, over all orders and all sets of lots.
+-- Assumes nothing.
+use mathlib.Core.Path.{_≡_}
+use mathlib.Core.Bool.{true, false}
+use mathlib.Core.List.{List}
+use Prim.Native.Nat.{ℕ, _+_, _≤_, _<_}
+use lib.ListN.{length, getD}
+use Rattle.lex.specs.Dictionary.{Before}
+use Rattle.week.specs.Rules.{keeps}
+use Rattle.week.specs.Tables.{Week, lots, pairRules}
+use Rattle.repair.specs.Repair.{case, isRepair}
+use Rattle.solve.specs.Super.{isBreak}
+
+-- A names 1 to a of n lots, ascending
+pub record SetOfLots (n a : ℕ) (A : List ℕ) : Type 0 where
+  pub some : 1 ≤ length A
+  pub few : length A ≤ a
+  pub below : (i : ℕ) → i < length A → getD A i 0 < n
+  pub ascends : (i : ℕ) → i + 1 < length A → getD A i 0 < getD A (i + 1) 0
+
+-- r is a repair of order s for the lost lots A
+abbrev pub Repair : Week → List ℕ → List ℕ → List ℕ → Type 0
+Repair W s A r = isRepair (pairRules W) (case (W .numbers) (W .give) s A) r ≡ true
+
+-- order s keeps the rules, and every set of 1 to a lots that is a break of it has a repair
+pub record Super (W : Week) (s : List ℕ) : Type 0 where
+  pub size : length s ≡ lots W
+  pub rules : keeps (pairRules W) s ≡ true
+  pub repaired : (A : List ℕ) → SetOfLots (lots W) (W .numbers .a) A → isBreak W s A ≡ true → (r : List ℕ) × Repair W s A r
+
+-- s has the property Q, and no list before it has
+pub record FirstOf (Q : List ℕ → Type 0) (s : List ℕ) : Type 0 where
+  pub has : Q s
+  pub none : (l : List ℕ) → Q l → Before l s → ⊥
+
+-- the row r of set A in the repair table of order s: the first repair of a break, and s itself where A is none
+pub record RowOf (W : Week) (s A r : List ℕ) : Type 0 where
+  pub broken : isBreak W s A ≡ true → FirstOf (Repair W s A) r
+  pub whole : isBreak W s A ≡ false → r ≡ s
