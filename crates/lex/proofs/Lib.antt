@@ -1,6 +1,7 @@
 pub mod Dictionary
 pub mod Every
 pub mod First
+pub mod Padded
 pub mod Scan
 pub mod Search
 pub mod Turn

@@ -11,6 +11,7 @@ use native.Mathlib.Omega.{arith}
 use lib.ListN.{length, getD, take, drop, set, replicate, length-set, length-replicate, take-append-drop}
 use lib.Seq.{take-suc, take-suc-set, take-set-le, drop-set-lt, getD-take, length-take-le}
 use Rattle.lex.specs.Dictionary.{Meets}
+use Rattle.lex.specs.Padded.{padded}
 use Rattle.lex.specs.Scan.{scanFrom}
 use Rattle.lex.proofs.Scan.{Picked, scan-picked}
 use Rattle.lex.proofs.Search.{Space, Reached, reach-start, reach-skip, reach-deeper, reach-back, reach-none, reach-found, reach-reject, left, left-deeper, left-back, left-skip, left-set}
@@ -84,8 +85,9 @@ module _ {Q : List ℕ → Type 0} {n m k : ℕ} {ok : List ℕ → Bool} {s : L
   pub turn-full : d + 1 ≡ n → length (take n (set s d v)) ≡ n
   turn-full e = length-take-le n (set s d v) (rw (length-set, t .state .size) (t .state .room))
 
-  pub turn-padded : set s d v ≡ take n (set s d v) ++ replicate (m - n) 0
-  turn-padded = sym (take-append-drop n (set s d v)) ∙ rw kept
+  pub turn-padded : d + 1 ≡ n → set s d v ≡ padded m (take n (set s d v))
+  unfolding padded
+  turn-padded e = sym (take-append-drop n (set s d v)) ∙ rw (kept, turn-full e)
 
   pub turn-good : v < k → d + 1 ≡ n → ok (take n (set s d v)) ≡ true
   turn-good h e = rw (← e) (stored h)

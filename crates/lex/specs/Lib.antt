@@ -1,4 +1,5 @@
 pub mod Dictionary
 pub mod Every
 pub mod First
+pub mod Padded
 pub mod Scan
