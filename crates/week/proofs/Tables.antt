@@ -66,6 +66,10 @@ pub passed-last : (ok : Bool) (k : ℕ) → (k ≡ 0 → ⊥) → unless ok k �
 passed-last true k h e = refl
 passed-last false k h e = absurd (h e)
 
+pub failed-last : (ok : Bool) (k : ℕ) → (k ≡ 0 → ⊥) → unless ok k ≡ k → ok ≡ false
+failed-last true k h e = absurd (h (sym e))
+failed-last false k h e = refl
+
 -- 1
 
 pub record Limits (N : Numbers) : Type 0 where
@@ -291,6 +295,18 @@ module _ (one two : Bool) (W : Week) where
       go true false true true false d = refl
       go true false true true true false = refl
       go true false true true true true = refl
+
+  -- its numbers are 1 to 4
+  pub admits-most : admits one two W ≤ 4
+  unfolding admits
+  admits-most = go (one && numbersOk (W .numbers)) (two && lengthsOk (lots W) (W .domain) (W .loss) (W .give) (W .ties)) (wordsOk (lots W) (W .domain) (W .loss) (W .give)) (tiesOk (pairRules W))
+    where
+      go : (a b c d : Bool) → orElse (unless a 1) (orElse (unless b 2) (orElse (unless c 3) (unless d 4))) ≤ 4
+      go false b c d = omega arith
+      go true false c d = omega arith
+      go true true false d = omega arith
+      go true true true false = omega arith
+      go true true true true = omega arith
 
   -- a service that is not refused passed its own tests, and its tables are accepted
   pub admits-one : admits one two W ≡ 0 → one ≡ true

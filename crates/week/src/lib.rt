@@ -5,7 +5,7 @@ ghost use lib.ListN.{length, getD, set, replicate};
 ghost use lib.Dec.{eqb};
 ghost use mathlib.Core.Bool.{Bool·beq};
 ghost use Rattle.lex.specs.Every.{imp};
-ghost use Rattle.week.specs.Rules.{rules, bitOf, inside, tieWord, together, free, tied, beside, fits, lotFits, keepsHalf};
+ghost use Rattle.week.specs.Rules.{rules, bitOf, inside, tieWord, free, tied, beside, fits, lotFits, keepsHalf};
 ghost use Rattle.week.specs.Tables.{week, refusal, joined, numbersOk, lengthsOk, lotOk, lotOkAt, wordsOk, wordOk, mayHave, pairOk, lotTiesHalf, tiesOk};
 
 // A lot's number: the variable of source 000. Never a slot's.
@@ -216,8 +216,8 @@ fn gap_ok(alternative: u32, gap: u32) -> bool
     gap == 0
 }
 
-// Refusal 1: whether every number is within its limits.
-fn numbers_ok(numbers: Numbers) -> bool
+// Refusal 1: whether every number is within its limits. Shared: a file's numbers are judged before its tables can be.
+pub fn numbers_ok(numbers: Numbers) -> bool
     ensures { λ r. ⌜ r ≡ numbersOk numbers ⌝ }
 {
     if numbers.n < 1 {
@@ -268,8 +268,8 @@ fn lengths_ok(n: u32, domain: &[u16], loss: &[u16], give: &[u16], ties: &[u16]) 
     true
 }
 
-// Refusal 3, of one lot: its domain is not empty, and holds its loss and give words.
-fn lot_ok(domain: u16, loss: u16, give: u16) -> bool
+// Refusal 3, of one lot: its domain is not empty, and holds its loss and give words. Shared: a file's words are judged where they lie.
+pub fn lot_ok(domain: u16, loss: u16, give: u16) -> bool
     ensures { λ r. ⌜ r ≡ lotOk domain loss give ⌝ }
 {
     if domain == 0 {
