@@ -8,7 +8,7 @@ use native.Mathlib.Omega.{arith}
 use lib.Dec.{eqb}
 use lib.ListN.{length, getD}
 use borrow.Author.Tests.{leb-true, le-leb, ltb-true, lt-ltb, le-ltb, eqb-true, eq-eqb, ne-eqb}
-use Rattle.lex.specs.Every.{all, every}
+use Rattle.lex.specs.Every.{every}
 use Rattle.lex.proofs.Every.{each, each-all, false-of, every-at}
 use Rattle.repair.specs.declared.Lost.{Lost}
 use Rattle.repair.specs.Break.{single, pair, lotBelow, lotAscends, lostTests, lostOk, LostList}

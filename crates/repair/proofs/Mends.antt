@@ -4,26 +4,28 @@ use mathlib.Core.Path.{_≡_, refl, sym, _∙_, ap, ap₂}
 use mathlib.Core.Bool.{Bool, true, false, _&&_, _||_, not, cond, true≢false, or-false, and-false, and-true}
 use mathlib.Core.List.{List, [], _∷_, _++_}
 use mathlib.Core.Option.{Option, none, some}
-use Prim.Native.Nat.{ℕ, _+_, _-_, _≤_, _<_}
+use Prim.Native.Nat.{ℕ, _+_, _≤_, _<_}
 use native.Mathlib.Omega.{arith}
 use native.Mathlib.Nat.{le-refl, add-zero}
 use native.Mathlib.Numerals.{add-one}
 use lib.Dec.{leb, ltb, eqb, leb·zero}
-use lib.ListN.{getD, length, take, replicate, length-append, length-replicate}
-use lib.Seq.{getD-append-seam, getD-take, length-take-le, take-at}
+use lib.ListN.{getD, length, take}
+use lib.Seq.{getD-append-seam, getD-take, length-take-le}
 use borrow.Author.Tests.{leb-true, le-leb, eqb-true}
 use Rattle.lex.specs.Dictionary.{Meets}
 use Rattle.lex.specs.Every.{every, count, oneIf, someOf}
-use Rattle.lex.specs.First.{Passes, always, isFound}
+use Rattle.lex.specs.First.{Passes, always, isFound, orOld}
+use Rattle.lex.specs.Padded.{padded}
 use Rattle.lex.proofs.Dictionary.{under-all}
 use Rattle.lex.proofs.Every.{both, and-left, and-right, count-cong, Snoc, Closed, every-snoc, count-snoc, snoc-closed, snoc-link, snoc-and}
 use Rattle.lex.proofs.First.{first-meets, first-is, first-same, first-some}
+use Rattle.lex.proofs.Padded.{padded-wide, padded-take}
 use Rattle.lex.proofs.Search.{Space, passes-space}
 use Rattle.week.specs.Rules.{Rules, keeps, fits, keepsHalf}
 use Rattle.week.proofs.Rules.{keeps-closed, keeps-below, fits-cong, half-snoc as keeps-snoc, half-below, Symmetric, keeps-half}
 use Rattle.repair.specs.declared.Lost.{Lost}
 use Rattle.repair.specs.Break.{single, pair}
-use Rattle.repair.specs.Found.{lotsOf, padded}
+use Rattle.repair.specs.Found.{lotsOf}
 use Rattle.repair.specs.Repair.{Case, isLost, replaces, yields, helps, mayGo, moves, goesAt, movesAt, mends, repairOf, mendsHalf, mendsAt, repairHalf}
 
 module _ (R : Rules) (C : Case) where
@@ -131,6 +133,11 @@ module _ (C : Case) (p v : ℕ) where
   unfolding moves
   moves-lost e = rw e
 
+-- a lot may go where r has it
+pub goes-here : (C : Case) (r : List ℕ) (p v : ℕ) (t : Bool) → v ≡ getD r p 0 → t ≡ mayGo C p v → t ≡ goesAt C r p
+unfolding goesAt
+goes-here C r p v t e f = f ∙ ap (mayGo C p) e
+
 -- How many lots move
 
 pub few-more : (moved most : ℕ) (more : Bool) → more ≡ true → ltb moved most ≡ leb (moved + oneIf more) most
@@ -155,6 +162,26 @@ module _ (R : Rules) (C : Case) (r : List ℕ) (p v : ℕ) where
     pub at-fits : mayGo C p v ≡ true → leb (moved + oneIf more) (C .numbers .b) ≡ true → fits R r p v ≡ mendsAt R C r p v
     unfolding mendsAt
     at-fits e f = rw (← counted, ← itself, e, f, and-true)
+
+-- A whole order, test by test
+
+module _ (R : Rules) (C : Case) (r : List ℕ) where
+  pub half-not-kept : keepsHalf R r ≡ false → false ≡ mendsHalf R C r
+  unfolding mendsHalf
+  half-not-kept e = rw e
+
+  pub half-no-go : every (goesAt C r) (length r) ≡ false → false ≡ mendsHalf R C r
+  unfolding mendsHalf
+  half-no-go e = rw (e, and-false)
+
+  pub half-counted : (moved : ℕ) → moved ≡ count (movesAt C r) (length r) → keepsHalf R r ≡ true → every (goesAt C r) (length r) ≡ true → leb moved (C .numbers .b) ≡ mendsHalf R C r
+  unfolding mendsHalf
+  half-counted moved e f g = rw (f, g, e)
+
+  -- a repair, each pair of lots looked at once
+  pub mends-half : Symmetric R → length r ≡ R .lots → mends R C r ≡ mendsHalf R C r
+  unfolding mends mendsHalf
+  mends-half s n = ap (λ (b : Bool). b && (every (goesAt C r) (length r) && leb (count (movesAt C r) (length r)) (C .numbers .b))) (keeps-half R s r (omega arith))
 
 -- The search of the code, lot after lot
 
@@ -228,8 +255,8 @@ module _ (R : Rules) (C : Case) where
 
   -- on a symmetric tie table it finds the repair chosen
   pub repair-half : Symmetric R → repairOf R C ≡ repairHalf R C
-  unfolding repairOf repairHalf mends mendsHalf
-  repair-half s = first-same (mends R C) (mendsHalf R C) always 16 (R .lots) (mends-closed R C) half-closed (λ l n. ap (λ (b : Bool). b && (goes l && few l)) (keeps-half R s l (omega arith)))
+  unfolding repairOf repairHalf
+  repair-half s = first-same (mends R C) (mendsHalf R C) always 16 (R .lots) (mends-closed R C) half-closed (λ l n. mends-half R C l s n)
 
 -- An order found, as the code holds it
 
@@ -238,16 +265,11 @@ pub half-long : (R : Rules) (C : Case) (r : List ℕ) → repairHalf R C ≡ som
 unfolding repairHalf
 half-long R C r e = first-some (mendsHalf R C) always 16 (half-closed R C) (R .lots) r e .len
 
--- and the places of 24 lots
-pub padded-wide : (n : ℕ) (o : Option (List ℕ)) → n ≤ 24 → ((r : List ℕ) → o ≡ some r → length r ≡ n) → n ≤ length (padded o)
-unfolding padded
-padded-wide n none h long = rw length-replicate h
-padded-wide n (some r) h long = rw length-append (let e = long r refl in omega arith)
+-- the 24 places have room for it
+pub found-wide : (n : ℕ) (o : Option (List ℕ)) → n ≤ 24 → n ≤ length (padded 24 (orOld o []))
+found-wide n o h = let w = padded-wide 24 (orOld o []) in omega arith
 
-pub padded-take : (n : ℕ) (r : List ℕ) → length r ≡ n → take n (padded (some r)) ≡ r
-unfolding padded
-padded-take n r e = take-at r _ n e
-
-pub padded-some : (s r : List ℕ) (n : ℕ) → length r ≡ n → s ≡ r ++ replicate (24 - n) 0 → s ≡ padded (some r)
-unfolding padded
-padded-some s r n e f = rw e f
+-- and the first of them are its own
+pub found-take : (n : ℕ) (o : Option (List ℕ)) (old : List ℕ) → ((r : List ℕ) → o ≡ some r → length r ≡ n) → isFound o ≡ true → take n (padded 24 (orOld o [])) ≡ orOld o old
+found-take n none old long e = absurd (true≢false (sym e))
+found-take n (some r) old long e = padded-take 24 r n (long r refl)

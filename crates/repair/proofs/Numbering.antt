@@ -7,9 +7,9 @@ use Prim.Native.Nat.{ℕ, _+_, _-_, _*_, _/_, _≤_, _<_}
 use native.Mathlib.Omega.{arith}
 use lib.Dec.{eqb, ltb}
 use borrow.Author.Tests.{eqb-true, ltb-true}
-use Rattle.lex.specs.Every.{every}
+use Rattle.lex.specs.Every.{every, same}
 use Rattle.lex.proofs.Every.{and-left, and-right, every-at}
-use Rattle.repair.specs.Break.{lotsFrom, single, pair, singles, pairsOf, pairs, lostSets, sameSet, place, rowNumber, rowCount}
+use Rattle.repair.specs.Break.{lotsFrom, single, pair, singles, pairsOf, pairs, lostSets, place, rowNumber, rowCount}
 
 -- the row of the pair p < q of n lots: behind the n single rows, the pairs of the lots before p and those of p before q
 abbrev pub pairRow : ℕ → ℕ → ℕ → ℕ
@@ -28,7 +28,7 @@ lotsWell : ℕ → Bool
 lotsWell n = eqb (rowCount n 2) (n + n * (n - 1) / 2) && (every (singleWell n) n && every (pairsWell n) n)
 
 numbered : every lotsWell 25 ≡ true
-unfolding every flatMap lotsFrom single pair singles pairsOf pairs lostSets sameSet place rowNumber rowCount singleWell pairWell pairsWell lotsWell
+unfolding every flatMap lotsFrom single pair singles pairsOf pairs lostSets same place rowNumber rowCount singleWell pairWell pairsWell lotsWell
 numbered = refl
 
 module _ (n : ℕ) (few : n ≤ 24) where

@@ -24,7 +24,7 @@ pub count-none : (n : ℕ) → rowCount n 0 ≡ 0
 unfolding rowCount lostSets
 count-none n = refl
 
-length-lots : (p k : ℕ) → length (lotsFrom p k) ≡ k
+pub length-lots : (p k : ℕ) → length (lotsFrom p k) ≡ k
 unfolding lotsFrom
 length-lots p zero = refl
 length-lots p (suc k) = ap suc (length-lots (suc p) k)

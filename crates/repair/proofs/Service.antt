@@ -1,26 +1,26 @@
 -- Each answer of the service repair, from what the code knows where it gives it.
 -- Assumes nothing.
-use mathlib.Core.Path.{_≡_, refl, sym, _∙_, ap, ap₂}
-use mathlib.Core.Bool.{Bool, true, false, cond, true≢false}
-use mathlib.Core.List.{List}
-use mathlib.Core.Option.{Option, none, some}
+use mathlib.Core.Path.{_≡_, sym, _∙_, ap, ap₂}
+use mathlib.Core.Bool.{Bool, true, false}
+use mathlib.Core.List.{List, []}
+use mathlib.Core.Option.{Option, some}
 use Prim.Native.Nat.{ℕ, _≤_}
 use native.Mathlib.Omega.{arith}
 use lib.Dec.{eqb}
 use lib.ListN.{length, take}
-use borrow.Author.Tests.{eqb-true, ne-eqb}
+use borrow.Author.Tests.{eqb-true, eq-eqb, ne-eqb}
 use Rattle.lex.specs.First.{isFound, orOld}
+use Rattle.lex.specs.Padded.{padded}
 use Rattle.lex.proofs.Every.{and-left, and-right}
 use Rattle.week.specs.Refusal.{unless}
 use Rattle.week.specs.Rules.{Rules, keeps, keepsHalf}
 use Rattle.week.specs.Tables.{Week, lots, pairRules, admits}
-use Rattle.week.proofs.Tables.{Accepted, accepted, accepted-keeps, admits-one, admits-two, admits-tables, halts, runs-on, stops, goes-on}
+use Rattle.week.proofs.Tables.{Accepted, accepted, accepted-keeps, admits-one, admits-two, admits-tables, halts, runs-on, stops, goes-on, stops-last, goes-off}
 use Rattle.repair.specs.Break.{lostOk, LostList}
 use Rattle.repair.specs.Repair.{Case, case, repairOf, repairHalf}
-use Rattle.repair.specs.Found.{padded}
 use Rattle.repair.specs.Service.{repairLengths, repairAnswer, repairOut, Repaired}
 use Rattle.repair.proofs.Break.{lost-read, lost-list}
-use Rattle.repair.proofs.Mends.{repair-half, half-long, padded-wide, padded-take}
+use Rattle.repair.proofs.Mends.{repair-half, half-long, found-wide, found-take}
 
 module _ (W : Week) (s A out : List ℕ) where
   abbrev one : Bool
@@ -80,19 +80,18 @@ module _ (W : Week) (s A out : List ℕ) where
       answered k e = runs-on (admits one two W) _ (known .admitted) (goes-on (keeps R s) 6 _ (kept ∙ stands) (e ∙ ap (λ (a : Option (List ℕ)). unless (isFound a) 8) (sym chosen)))
 
       -- what was found has room for the buffer's lots
-      pub wide : (slots : List ℕ) → slots ≡ padded (repairHalf R C) → length out ≤ length slots
-      wide slots f = rw (f, known .room) (padded-wide (lots W) (repairHalf R C) (known .tables .limits .few) (half-long R C))
+      pub wide : (slots : List ℕ) → slots ≡ padded 24 (orOld (repairHalf R C) []) → length out ≤ length slots
+      wide slots f = rw (f, known .room) (found-wide (lots W) (repairHalf R C) (known .tables .limits .few))
 
-      -- what was found is handed out
-      pub by-search : (k : ℕ) (o slots : List ℕ) (is : Bool) → is ≡ isFound (repairHalf R C) → slots ≡ padded (repairHalf R C) → k ≡ unless is 8 → o ≡ cond is (take (length out) slots) out → Repaired W s A out k o
+      pub by-none : isFound (repairHalf R C) ≡ false → Repaired W s A out 8 out
+      by-none e = refused 8 (answered 8 (stops-last (isFound (repairHalf R C)) 8 e)) (λ z. omega arith)
+
+      -- what was found is copied
+      pub by-search : (slots o : List ℕ) → isFound (repairHalf R C) ≡ true → slots ≡ padded 24 (orOld (repairHalf R C) []) → o ≡ take (length out) slots → Repaired W s A out 0 o
       unfolding repairOut
-      by-search k o slots is e f g h = record {
-        answer = answered k (g ∙ ap (λ (b : Bool). unless b 8) e);
-        buffer = rw (sym (answered k (g ∙ ap (λ (b : Bool). unless b 8) e)), g, chosen) (go (repairHalf R C) refl is e f h);
-      }
-        where
-          go : (a : Option (List ℕ)) → repairHalf R C ≡ a → (b : Bool) → b ≡ isFound a → slots ≡ padded a → o ≡ cond b (take (length out) slots) out → o ≡ cond (eqb (unless b 8) 0) (orOld a out) out
-          go none h true i j l = absurd (true≢false i)
-          go none h false i j l = l
-          go (some r) h true i j l = l ∙ ap₂ take (known .room) j ∙ padded-take (lots W) r (half-long R C r h)
-          go (some r) h false i j l = absurd (true≢false (sym i))
+      by-search slots o e f g =
+          let done = answered 0 (goes-off (isFound (repairHalf R C)) 8 e) in
+          record {
+            answer = done;
+            buffer = rw (eq-eqb (repairAnswer W s A out) 0 (sym done), chosen) (g ∙ ap₂ take (known .room) f ∙ found-take (lots W) (repairHalf R C) out (half-long R C) e);
+          }

@@ -1,11 +1,11 @@
 -- Breaks: the sets of lots that can be lost, in the order of a repair table's rows.
 -- A set of lots is the ascending list of its lots. Assumes nothing.
-use mathlib.Core.Bool.{Bool, true, false, _&&_, cond}
+use mathlib.Core.Bool.{Bool, cond}
 use mathlib.Core.List.{List, [], _∷_, _++_, map, flatMap}
 use Prim.Native.Nat.{ℕ, zero, suc, _+_, _-_, _*_, _≤_, _<_}
-use lib.Dec.{eqb, ltb, leb}
+use lib.Dec.{ltb, leb}
 use lib.ListN.{length, getD, take, drop}
-use Rattle.lex.specs.Every.{all, every, everyOf}
+use Rattle.lex.specs.Every.{all, every, everyOf, same}
 use Rattle.week.specs.Rules.{bitOf}
 
 -- the k lots from p on
@@ -64,12 +64,6 @@ pub record LostList (A : List ℕ) : Type 0 where
 
 -- The rows of a repair table
 
-unfoldable pub sameSet : List ℕ → List ℕ → Bool
-sameSet [] [] = true
-sameSet [] (q ∷ B) = false
-sameSet (p ∷ A) [] = false
-sameSet (p ∷ A) (q ∷ B) = eqb p q && sameSet A B
-
 -- the number of the first member that passes f
 unfoldable pub place : (List ℕ → Bool) → List (List ℕ) → ℕ
 place f [] = 0
@@ -77,7 +71,7 @@ place f (A ∷ l) = let r = suc (place f l) in cond (f A) 0 r
 
 -- the row that stands for a set; rows count from 0
 unfoldable pub rowNumber : ℕ → List ℕ → ℕ
-rowNumber n A = place (sameSet A) (lostSets n 2)
+rowNumber n A = place (same A) (lostSets n 2)
 
 unfoldable pub rowCount : ℕ → ℕ → ℕ
 rowCount n a = length (lostSets n a)

@@ -2,12 +2,12 @@
 -- Assumes nothing.
 use mathlib.Core.Path.{_≡_}
 use mathlib.Core.Bool.{cond}
-use mathlib.Core.List.{List, _++_}
-use mathlib.Core.Option.{Option, none, some}
-use Prim.Native.Nat.{ℕ, _-_}
+use mathlib.Core.List.{List, []}
+use mathlib.Core.Option.{Option}
+use Prim.Native.Nat.{ℕ}
 use lib.Dec.{eqb}
-use lib.ListN.{length, replicate}
-use Rattle.lex.specs.First.{isFound}
+use Rattle.lex.specs.First.{isFound, orOld}
+use Rattle.lex.specs.Padded.{padded}
 use Rattle.repair.specs.Break.{single, pair}
 use Rattle.repair.specs.declared.Lost.{Lost}
 use Rattle.repair.specs.declared.Found.{Found}
@@ -16,12 +16,7 @@ use Rattle.repair.specs.declared.Found.{Found}
 unfoldable pub lotsOf : Lost → List ℕ
 lotsOf L = cond (eqb (L .0 .0) (L .1 .0)) (single (L .0 .0)) (pair (L .0 .0) (L .1 .0))
 
--- 24 places, 0 beyond the order's lots
-unfoldable pub padded : Option (List ℕ) → List ℕ
-padded none = replicate 24 0
-padded (some s) = s ++ replicate (24 - length s) 0
-
--- the code holds the answer o
+-- the code holds the answer o: an order in 24 places, all 0 where there is none
 pub record Holds (o : Option (List ℕ)) (f : Found) : Type 0 where
   pub is : f .is ≡ isFound o
-  pub slots : f .order .slots ≡ padded o
+  pub slots : f .order .slots ≡ padded 24 (orOld o [])

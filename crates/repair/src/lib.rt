@@ -10,12 +10,10 @@ ghost use lib.Dec.{leb};
 ghost use Rattle.lex.specs.Every.{every, oneIf, count};
 ghost use Rattle.lex.specs.Scan.{scanFrom};
 ghost use Rattle.week.specs.Rules.{rules};
-ghost use Rattle.repair.specs.Repair.{case, isLost, replaces, yields, helps, mayGo, moves, movesAt, mendsAt, repairHalf};
+ghost use Rattle.repair.specs.Repair.{case, isLost, replaces, yields, helps, mayGo, moves, goesAt, movesAt, mendsHalf, mendsAt, repairHalf};
 ghost use Rattle.repair.specs.Found.{lotsOf, Holds};
 ghost use Rattle.repair.specs.Break.{LostList, lotBelow, lotAscends, lostOk, rowNumber, rowCount};
 ghost use Rattle.repair.specs.Service.{repairLengths, Repaired, rowNumbers, rowLengths, rowAnswer, rowPart};
-ghost use mathlib.Core.Bool.{cond};
-ghost use Rattle.week.specs.Refusal.{unless};
 ghost use Rattle.week.specs.Tables.{week, admits};
 
 // The lots lost at once: two in ascending order, or one, which is then named twice.
@@ -104,6 +102,28 @@ fn moves_at(numbers: Numbers, give: &[u16], order: &[u8], lost: Lost, to: &[u8],
     moves_to(numbers, give, order, lost, p, week::slot_in(to, p))
 }
 
+// Whether every lot may go where `to` has it.
+fn all_go(numbers: Numbers, give: &[u16], order: &[u8], lost: Lost, to: &[u8]) -> bool
+    requires { ⌜ length (now to) ≤ 24 ⌝ }
+    ensures { λ r. ⌜ r ≡ every (goesAt (case numbers (now (give .entry)) (now (order .entry)) (lotsOf lost)) (now (to .entry))) (length (now (to .entry))) ⌝ }
+{
+    let mut p: u8 = 0;
+    while (p as usize) < to.len() {
+        if !may_go(
+            numbers,
+            give,
+            order,
+            lost,
+            Lot(p),
+            week::slot_in(to, Lot(p)),
+        ) {
+            return false;
+        }
+        p += 1;
+    }
+    true
+}
+
 // How many of the first d lots move, of those that are not lost, where `to` has them.
 fn count_moves(numbers: Numbers, give: &[u16], order: &[u8], lost: Lost, to: &[u8], d: u8) -> u32
     ensures { λ r. ⌜ r ≡ count (movesAt (case numbers (now (give .entry)) (now (order .entry)) (lotsOf lost)) (now (to .entry))) d ⌝ }
@@ -127,6 +147,28 @@ fn few(most: u32, moved: u32, more: bool) -> bool
         return moved < most;
     }
     moved <= most
+}
+
+// Whether `to` is a repair of an order for the lost lots. Inner layers share it: they know that it has at most 24 places.
+pub fn is_repair(
+    numbers: Numbers,
+    domain: &[u16],
+    give: &[u16],
+    ties: &[u16],
+    order: &[u8],
+    lost: Lost,
+    to: &[u8],
+) -> bool
+    requires { ⌜ length (now to) ≤ 24 ⌝ }
+    ensures { λ r. ⌜ r ≡ mendsHalf (rules (numbers .n) (now (domain .entry)) (now (ties .entry))) (case numbers (now (give .entry)) (now (order .entry)) (lotsOf lost)) (now (to .entry)) ⌝ }
+{
+    if !week::keeps_rules(numbers.n, domain, ties, to) {
+        return false;
+    }
+    if !all_go(numbers, give, order, lost, to) {
+        return false;
+    }
+    count_moves(numbers, give, order, lost, to, to.len() as u8) <= numbers.b
 }
 
 // Whether lot p may take slot v in a repair, behind the slots that `to` gives the lots before p, of which `moved` move.
@@ -352,20 +394,6 @@ fn repair_admits(
     week::join(one, two, week::judge(numbers, domain, loss, give, ties))
 }
 
-// What was found into `out`, and 0; or 8, and `out` as it was. Inner layers share it: they know that what was found has room.
-pub fn hand_out(found: Found, out: &mut [u8]) -> u32
-    requires { ⌜ length (now out) ≤ length (found .order .slots) ⌝ }
-    ensures { λ r. ⌜ (r ≡ unless (found .is) 8) × (now (out .exit) ≡ cond (found .is) (take (length (now (out .entry))) (found .order .slots)) (now (out .entry))) ⌝ }
-{
-    if !found.is {
-        return 8;
-    }
-    let best = found.order;
-    let slots = best.slots;
-    copy_slots(&slots, out);
-    0
-}
-
 // The first repair of `order` for the lots in `lost`, into `out`. Answers 0, or the refusal: 1, 2, 3, 4, 6 or 8; refused, `out`
 // is as it was. Neither a nor the loss words matter beyond being judged: the lots are lost in fact.
 pub fn repair(
@@ -387,10 +415,13 @@ pub fn repair(
     if !week::keeps_rules(numbers.n, domain, ties, order) {
         return 6;
     }
-    hand_out(
-        find_repair(numbers, domain, give, ties, order, lost_of(lost)),
-        out,
-    )
+    let found = find_repair(numbers, domain, give, ties, order, lost_of(lost));
+    if !found.is {
+        return 8;
+    }
+    let slots = found.order.slots;
+    copy_slots(&slots, out);
+    0
 }
 
 // Refusal 1 of row, of its two numbers.

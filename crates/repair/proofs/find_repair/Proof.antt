@@ -5,12 +5,13 @@ use native.Mathlib.Omega.{arith}
 use lib.ListN.{take, set}
 use borrow.Author.Needs.{needs}
 use Rattle.lex.specs.First.{Passes, always}
+use Rattle.lex.specs.Padded.{padded}
 use Rattle.lex.proofs.Search.{left}
 use Rattle.lex.proofs.Turn.{State, Turn, state-start, turn-deeper, turn-deeper-less, turn-full, turn-padded, turn-good, turn-found, turn-last, turn-back, turn-back-less, turn-none}
 use Rattle.week.specs.Rules.{Rules, rules}
 use Rattle.repair.specs.Repair.{Case, case, mendsHalf, mendsAt}
-use Rattle.repair.specs.Found.{lotsOf, padded}
-use Rattle.repair.proofs.Mends.{half-nil, half-link, half-space, half-passes, half-is, padded-some}
+use Rattle.repair.specs.Found.{lotsOf}
+use Rattle.repair.proofs.Mends.{half-nil, half-link, half-space, half-passes, half-is}
 use Rattle.repair.proofs.find_repair.Statement.{statement}
 use Rattle.repair.proofs.find_repair.Tie as tie
 
@@ -70,7 +71,7 @@ returns : tie.Need-returns Inv-lots μ-lots
 returns c =
     let p = c .before .before in
     let e = half-is (R p) (C p) (some (take (R p .lots) (set (head p .lots .slots) (head p .lots .d) (p .pick-slot .result .0)))) (turn-found (turn p) (half-passes (R p) (C p) _ (turn-full (turn p) (c .if2 .taken)) (turn-good (turn p) (c .before .if1 .taken) (c .if2 .taken))) (c .if2 .taken)) in
-    record { is = rw e; slots = rw e (padded-some _ _ (R p .lots) (turn-full (turn p) (c .if2 .taken)) (turn-padded (turn p))) }
+    record { is = rw e; slots = rw e (turn-padded (turn p) (c .if2 .taken)) }
 
 lots-less : tie.Need-lots-less Inv-lots μ-lots
 lots-less c = turn-deeper-less (turn (c .before .before)) (c .before .if1 .taken) (omega arith)

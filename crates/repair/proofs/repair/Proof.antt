@@ -11,7 +11,7 @@ use Rattle.week.specs.Rules.{keepsHalf}
 use Rattle.week.specs.Tables.{pairRules, Week, week}
 use Rattle.repair.specs.Repair.{case, repairHalf}
 use Rattle.repair.specs.Found.{Holds}
-use Rattle.repair.proofs.Service.{by-tables, Ready, ready, by-order, wide, by-search}
+use Rattle.repair.proofs.Service.{by-tables, Ready, ready, by-order, wide, by-none, by-search}
 use Rattle.repair.proofs.repair.Statement.{statement}
 use Rattle.repair.proofs.repair.Tie as tie
 
@@ -60,14 +60,29 @@ lost-of-requires c κs = known (c .before .before) .lost
 find-repair-requires : tie.Need-find-repair-requires
 find-repair-requires c κs = (known (c .before .before .before) .tables .limits .some, known (c .before .before .before) .tables .limits .few)
 
-hand-out-requires : tie.Need-hand-out-requires
-hand-out-requires c κs = wide _ _ _ _ (known (c .before .before .before .before .before)) (stands (c .before .before .before)) _ (found (c .before) .slots)
-
 same-length-3 : tie.Need-same-length-3
 same-length-3 c = search needs
 
 returns-3 : tie.Need-returns-3
-returns-3 c = by-search _ _ _ _ (known (c .before .before .before .before .before .before .before .before)) (stands (c .before .before .before .before .before .before)) _ _ _ _ (found (c .before .before .before .before) .is) (found (c .before .before .before .before) .slots) (c .before .before .hand-out .ensures .0) (c .before .before .hand-out .ensures .1)
+returns-3 c =
+    let b = c .before .before in
+    by-none _ _ _ _ (known (b .before .before .before .before)) (stands (b .before .before)) (sym (found b .is) ∙ not-true _ (c .if3 .taken))
+
+slice-aggregate-copy-slots : tie.Need-slice-aggregate-copy-slots
+slice-aggregate-copy-slots c = search needs
+
+copy-slots-requires : tie.Need-copy-slots-requires
+copy-slots-requires c κs =
+    let b = c .before .before .before .before .before in
+    wide _ _ _ _ (known (b .before .before .before .before)) (stands (b .before .before)) _ (found b .slots)
+
+same-length-4 : tie.Need-same-length-4
+same-length-4 c = search needs
+
+returns-4 : tie.Need-returns-4
+returns-4 c =
+    let b = c .before .before .before .before .before .before .before .before in
+    by-search _ _ _ _ (known (b .before .before .before .before)) (stands (b .before .before)) _ _ (sym (found b .is) ∙ not-false _ (c .before .before .before .before .before .before .if3 .left)) (found b .slots) (c .before .before .copy-slots .ensures)
 
 pub repair-spec : {M : Type 1} → statement M
 repair-spec =
@@ -81,6 +96,9 @@ repair-spec =
     returns-2
     lost-of-requires
     find-repair-requires
-    hand-out-requires
     same-length-3
-    returns-3)
+    returns-3
+    slice-aggregate-copy-slots
+    copy-slots-requires
+    same-length-4
+    returns-4)
