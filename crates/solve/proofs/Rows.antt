@@ -18,6 +18,7 @@ use Rattle.repair.specs.declared.Lost.{Lost}
 use Rattle.repair.specs.Break.{lotsFrom, single, pair, singles, pairsOf, pairs, lostSets, breaks, rowCount}
 use Rattle.repair.specs.Found.{lotsOf}
 use Rattle.repair.proofs.Break.{lots-single, lots-pair}
+use Rattle.repair.proofs.Rows.{length-lots}
 use Rattle.week.specs.Rules.{bitOf}
 
 -- Lists by their places
@@ -27,11 +28,6 @@ unfolding lotsFrom
 getD-lots p zero i h = absurd (omega arith)
 getD-lots p (suc k) zero h = omega arith
 getD-lots p (suc k) (suc i) h = getD-lots (suc p) k i (omega arith) ∙ omega arith
-
-length-lots : (p k : ℕ) → length (lotsFrom p k) ≡ k
-unfolding lotsFrom
-length-lots p zero = refl
-length-lots p (suc k) = ap suc (length-lots (suc p) k)
 
 -- the i-th of a list of sets made from lots
 getD-sets : (f : ℕ → List ℕ) (l : List ℕ) (i : ℕ) → i < length l → getD (map f l) i [] ≡ f (getD l i 0)

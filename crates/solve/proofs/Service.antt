@@ -1,8 +1,8 @@
 -- Each answer of the service solve, from what the code knows where it gives it.
 -- Assumes nothing.
-use mathlib.Core.Path.{_≡_, refl, sym, _∙_, ap}
-use mathlib.Core.Bool.{Bool, true, false, cond, true≢false}
-use mathlib.Core.List.{List}
+use mathlib.Core.Path.{_≡_, refl, sym, _∙_, ap, ap₂}
+use mathlib.Core.Bool.{Bool, true, false}
+use mathlib.Core.List.{List, []}
 use mathlib.Core.Option.{Option, none, some}
 use Prim.Native.Nat.{ℕ, _*_, _≤_}
 use native.Mathlib.Omega.{arith}
@@ -10,6 +10,7 @@ use lib.Dec.{eqb}
 use lib.ListN.{length, take}
 use borrow.Author.Tests.{eqb-true, eq-eqb, ne-eqb}
 use Rattle.lex.specs.First.{isFound, orOld}
+use Rattle.lex.specs.Padded.{padded}
 use Rattle.lex.proofs.Every.{and-left, and-right}
 use Rattle.lex.proofs.First.{first-some}
 use Rattle.week.specs.Rules.{keeps}
@@ -18,8 +19,7 @@ use Rattle.week.proofs.Rules.{keeps-closed}
 use Rattle.week.proofs.Tables.{Limits, limits, accepted, joined-admits, admits-two, admits-tables, halts, runs-on, stops, stops-last, goes-off}
 use Rattle.repair.specs.Break.{rowCount}
 use Rattle.repair.specs.Service.{rowLengths}
-use Rattle.repair.specs.Found.{padded}
-use Rattle.repair.proofs.Mends.{padded-wide, padded-take}
+use Rattle.repair.proofs.Mends.{found-wide, found-take}
 use Rattle.solve.specs.Super.{robust, firstSuper, tableOf}
 use Rattle.solve.specs.Service.{solveAnswer, solveOrder, solveTable, Solved}
 
@@ -36,6 +36,11 @@ numbers-fine W h = go (numbersOk (W .numbers)) refl
 pub numbers-refused : (W : Week) (two : Bool) → refusal W ≡ 1 → 1 ≡ admits true two W
 unfolding joined
 numbers-refused W two e = sym (ap (joined true two) e) ∙ joined-admits true two W
+
+-- a super solution has a slot for each lot
+pub super-long : (W : Week) (r : List ℕ) → firstSuper W ≡ some r → length r ≡ lots W
+unfolding firstSuper
+super-long W r e = first-some (keeps (pairRules W)) (robust W) 16 (keeps-closed (pairRules W)) (lots W) r e .len
 
 module _ (W : Week) (order table : List ℕ) where
   abbrev two : Bool
@@ -72,29 +77,21 @@ module _ (W : Week) (order table : List ℕ) where
     unfolding solveAnswer
     by-none e = refused 5 (runs-on (admits true two W) _ (known .admitted) (stops-last (isFound (firstSuper W)) 5 e)) (λ z. omega arith)
 
-    long : (r : List ℕ) → firstSuper W ≡ some r → length r ≡ lots W
-    unfolding firstSuper
-    long r e = first-some (keeps (pairRules W)) (robust W) 16 (keeps-closed (pairRules W)) (lots W) r e .len
-
     -- what was found has room for the order's lots
-    pub wide : (slots : List ℕ) → slots ≡ padded (firstSuper W) → length order ≤ length slots
-    wide slots e = rw (e, known .size) (padded-wide (lots W) (firstSuper W) (accepted W (known .fine) .limits .few) long)
+    pub wide : (slots : List ℕ) → slots ≡ padded 24 (orOld (firstSuper W) []) → length order ≤ length slots
+    wide slots e = rw (e, known .size) (found-wide (lots W) (firstSuper W) (accepted W (known .fine) .limits .few))
 
-    module _ (found : isFound (firstSuper W) ≡ true) (slots o : List ℕ) (is : Bool) (yes-found : is ≡ true) (held : slots ≡ padded (firstSuper W)) (put : o ≡ cond is (take (length order) slots) order) where
+    module _ (found : isFound (firstSuper W) ≡ true) (slots o : List ℕ) (held : slots ≡ padded 24 (orOld (firstSuper W) [])) (put : o ≡ take (length order) slots) where
       -- the order that was put is the first super solution
       put-order : o ≡ orOld (firstSuper W) order
-      put-order = put ∙ rw (yes-found, held, known .size) (go (firstSuper W) refl found)
-        where
-          go : (a : Option (List ℕ)) → firstSuper W ≡ a → isFound a ≡ true → take (lots W) (padded a) ≡ orOld a order
-          go none e f = absurd (true≢false (sym f))
-          go (some r) e f = padded-take (lots W) r (long r e)
+      put-order = put ∙ ap₂ take (known .size) held ∙ found-take (lots W) (firstSuper W) order (super-long W) found
 
       pub put-size : length o ≡ lots W
       put-size = rw put-order (go (firstSuper W) refl)
         where
           go : (a : Option (List ℕ)) → firstSuper W ≡ a → length (orOld a order) ≡ lots W
           go none e = known .size
-          go (some r) e = long r e
+          go (some r) e = super-long W r e
 
       answered : 0 ≡ solveAnswer W order table
       unfolding solveAnswer

@@ -4,21 +4,23 @@ use mathlib.Core.Path.{_≡_, refl, sym, _∙_, ap, ap₂}
 use mathlib.Core.Bool.{Bool, true, false, cond, true≢false}
 use mathlib.Core.List.{List, [], _∷_, _++_, flatMap, append-nil, append-assoc}
 use mathlib.Core.Option.{Option, none, some}
-use Prim.Native.Nat.{ℕ, _+_, _-_, _*_, _≤_, _<_}
+use Prim.Native.Nat.{ℕ, zero, suc, _+_, _-_, _*_, _≤_, _<_}
 use native.Mathlib.Omega.{arith}
 use native.Mathlib.Numerals.{add-one}
 use native.Mathlib.Nat.{suc-mul, mul-le-mul, mul-le-mul-right, zero-mul}
 use borrow.Rule.Slice.PartMut.{putMid, same-len-mid}
 use lib.ListN.{length, getD, take, drop, length-append, length-drop}
-use lib.Seq.{take-all, take-suc, take-length, length-take-le, take-at}
+use lib.Seq.{take-all, take-suc, take-length, length-take-le, take-at, drop-append-add}
 use Rattle.lex.specs.First.{isFound, orOld}
+use Rattle.lex.specs.Padded.{padded}
 use Rattle.week.specs.Tables.{Week, lots, pairRules, refusal}
 use Rattle.week.proofs.Tables.{accepted}
-use Rattle.repair.specs.Break.{breaks, rowCount}
+use Rattle.repair.specs.Break.{breaks, rowCount, rowAt}
 use Rattle.repair.specs.Repair.{case, repairHalf}
-use Rattle.repair.specs.Found.{padded}
-use Rattle.repair.proofs.Mends.{repair-half, half-long, padded-wide, padded-take}
+use Rattle.repair.proofs.Rows.{count-small}
+use Rattle.repair.proofs.Mends.{repair-half, half-long, found-wide, found-take}
 use Rattle.solve.specs.Super.{isBreak, repairFor, rowOf, rowSets, tableOf}
+use Rattle.solve.proofs.Rows.{count-most}
 
 -- One row
 
@@ -41,19 +43,25 @@ module _ (W : Week) (s A : List ℕ) (fine : refusal W ≡ 0) (size : length s �
   row-order t e f = copied t e ∙ rw f
 
   -- what was found has room for the row's lots
-  pub row-wide : (slots : List ℕ) → slots ≡ padded half → lots W ≤ length slots
-  row-wide slots f = rw f (padded-wide (lots W) half (accepted W fine .limits .few) (half-long (pairRules W) (case (W .numbers) (W .give) s A)))
+  pub row-wide : (slots : List ℕ) → slots ≡ padded 24 (orOld half []) → lots W ≤ length slots
+  row-wide slots f = rw f (found-wide (lots W) half (accepted W fine .limits .few))
 
-  -- and is written over the order
-  pub row-mended : (t u slots : List ℕ) (is : Bool) → t ≡ take (lots W) s → is ≡ isFound half → slots ≡ padded half → u ≡ cond is (take (length t) slots) t → breaks (W .loss) s A ≡ true → u ≡ rowOf W s A
+  -- the row of a break
+  row-break : breaks (W .loss) s A ≡ true → orOld half s ≡ rowOf W s A
   unfolding rowOf isBreak repairFor
-  row-mended t u slots is e f g h b = rw (b, repair-half (pairRules W) (case (W .numbers) (W .give) s A) (accepted W fine .symmetric)) (go half refl is f g h)
+  row-break b = rw (b, repair-half (pairRules W) (case (W .numbers) (W .give) s A) (accepted W fine .symmetric))
+
+  -- none was found: the order stands
+  pub row-none : (t : List ℕ) → t ≡ take (lots W) s → isFound half ≡ false → breaks (W .loss) s A ≡ true → t ≡ rowOf W s A
+  row-none t e f b = copied t e ∙ go half f ∙ row-break b
     where
-      go : (o : Option (List ℕ)) → half ≡ o → (x : Bool) → x ≡ isFound o → slots ≡ padded o → u ≡ cond x (take (length t) slots) t → u ≡ orOld o s
-      go none i true j k l = absurd (true≢false j)
-      go none i false j k l = l ∙ copied t e
-      go (some r) i true j k l = l ∙ ap₂ take (ap length (copied t e) ∙ size) k ∙ padded-take (lots W) r (half-long (pairRules W) (case (W .numbers) (W .give) s A) r i)
-      go (some r) i false j k l = absurd (true≢false (sym j))
+      go : (o : Option (List ℕ)) → isFound o ≡ false → s ≡ orOld o s
+      go none f = refl
+      go (some r) f = absurd (true≢false f)
+
+  -- what was found is written over the order
+  pub row-mended : (t u slots : List ℕ) → t ≡ take (lots W) s → isFound half ≡ true → slots ≡ padded 24 (orOld half []) → u ≡ take (length t) slots → breaks (W .loss) s A ≡ true → u ≡ rowOf W s A
+  row-mended t u slots e f g h b = h ∙ ap₂ take (copied-size t e) g ∙ found-take (lots W) half s (half-long (pairRules W) (case (W .numbers) (W .give) s A)) f ∙ row-break b
 
 -- Rows one behind the other
 
@@ -84,6 +92,21 @@ module _ (n i rows : ℕ) (few : n ≤ 24) (more : i < rows) (small : rows ≤ 6
 
   pub to-within : i * n + n ≤ rows * n
   to-within = let m = mul-le-mul-right n more in let s = suc-mul i n in omega arith
+
+-- the place of row i in the table of an accepted week
+module _ (W : Week) (table : List ℕ) (i rows : ℕ) (fine : refusal W ≡ 0) (counted : rows ≡ rowCount (lots W) (W .numbers .a)) (room : length table ≡ rowCount (lots W) (W .numbers .a) * lots W) (more : i < rows) where
+  small : rows ≤ 600
+  small = rw counted (count-small (lots W) (W .numbers .a) (accepted W fine .limits .few) (accepted W fine .limits .breaks))
+
+  pub place-small : i * lots W ≤ 14400
+  place-small = from-small (lots W) i rows (accepted W fine .limits .few) more small
+
+  pub place-inside : i * lots W + lots W ≤ length table
+  place-inside = rw (room, ← counted) (to-within (lots W) i rows (accepted W fine .limits .few) more small)
+
+  -- its loss has a number below those of two lots
+  pub place-loss : (1 ≤ lots W) × ((lots W ≤ 24) × (i < rowCount (lots W) 2))
+  place-loss = let l = accepted W fine .limits in (l .some, (l .few, let m = count-most (lots W) (W .numbers .a) (l .breaks) in omega arith))
 
 -- A row written into its place: the rows before it stand, and it stands behind them
 
@@ -135,3 +158,19 @@ row-size W s A fine size = go (isBreak W s A)
     go : (t : Bool) → length (cond t (orOld (repairFor W s A) s) s) ≡ lots W
     go true = rw (repair-half (pairRules W) (case (W .numbers) (W .give) s A) (accepted W fine .symmetric)) (found (repairHalf (pairRules W) (case (W .numbers) (W .give) s A)) refl)
     go false = size
+
+-- row i of rows of n bytes, one behind the other
+pub row-at : (f : List ℕ → List ℕ) (n : ℕ) → ((A : List ℕ) → length (f A) ≡ n) → (l : List (List ℕ)) (i : ℕ) → i < length l → rowAt n (flatMap f l) i ≡ f (getD l i [])
+unfolding rowAt flatMap
+row-at f n size [] i h = absurd (omega arith)
+row-at f n size (A ∷ l) zero h = ap (λ (m : ℕ). take n (drop m (f A ++ flatMap f l))) (zero-mul n) ∙ take-at (f A) (flatMap f l) n (size A)
+row-at f n size (A ∷ l) (suc i) h =
+    let e : suc i * n ≡ length (f A) + i * n = let z = size A in let m = suc-mul i n in omega arith in
+    ap (take n) (ap (λ (m : ℕ). drop m (f A ++ flatMap f l)) e ∙ drop-append-add (f A) (flatMap f l) (i * n))
+    ∙ row-at f n size l i (omega arith)
+
+pub rows-size : (f : List ℕ → List ℕ) (n : ℕ) → ((A : List ℕ) → length (f A) ≡ n) → (l : List (List ℕ)) → length (flatMap f l) ≡ length l * n
+unfolding flatMap
+rows-size f n size [] = sym (zero-mul n)
+rows-size f n size (A ∷ l) =
+    let m = suc-mul (length l) n in let z = size A in let r = rows-size f n size l in let e = length-append (f A) (flatMap f l) in omega arith

@@ -1,2 +1,3 @@
 pub mod Service
 pub mod Super
+pub mod Judging

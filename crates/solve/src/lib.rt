@@ -1,4 +1,4 @@
-// Super solutions: the first one and its repair table.
+// Super solutions: the first one and its repair table; and the judgement of an order and table made elsewhere.
 use repair::Found;
 use repair::Lost;
 use week::Lot;
@@ -15,12 +15,20 @@ ghost use mathlib.Core.Bool.{true};
 ghost use Rattle.week.specs.Tables.{week, refusal, admits};
 ghost use Rattle.repair.specs.Service.{rowLengths};
 ghost use Rattle.solve.specs.Service.{Solved};
+ghost use Rattle.solve.specs.Judging.{right, firstWrong, Judged};
+ghost use Rattle.lex.specs.Every.{same};
 ghost use Rattle.repair.specs.Break.{lostSets, breaks, rowCount};
 ghost use Rattle.repair.specs.Found.{lotsOf, Holds};
-ghost use Rattle.solve.specs.Super.{safe, safeRow, robust, firstSuper, rowOf, tableOf};
+ghost use Rattle.solve.specs.Super.{safe, robust, firstSuper, rowOf, tableOf};
 
-// The loss that row i of a repair table stands for: a single lot, or behind those a pair.
-fn lost_at(n: u32, i: usize) -> Lost
+// What check answers: refusal or 0, and with 7 the number of the first wrong row, which is 0 otherwise.
+pub struct Checked {
+    pub answer: u32,
+    pub row: u32,
+}
+
+// The loss that row i of a repair table stands for: a single lot, or behind those a pair. Inner layers share it: they know the limits.
+pub fn lost_at(n: u32, i: usize) -> Lost
     requires { ⌜ (1 ≤ n) × ((n ≤ 24) × (i < rowCount n 2)) ⌝ }
     ensures { λ r. ⌜ lotsOf r ≡ getD (lostSets n 2) i [] ⌝ }
 {
@@ -185,10 +193,12 @@ fn put_row(
     if !is_break(loss, order, lost) {
         return;
     }
-    repair::hand_out(
-        repair::find_repair(numbers, domain, give, ties, order, lost),
-        row,
-    );
+    let found = repair::find_repair(numbers, domain, give, ties, order, lost);
+    if !found.is {
+        return;
+    }
+    let slots = found.order.slots;
+    repair::copy_slots(&slots, row);
 }
 
 // Every row of the repair table, one behind the other.
@@ -268,7 +278,114 @@ pub fn solve(
     if !found.is {
         return 5;
     }
-    repair::hand_out(found, order);
+    let slots = found.order.slots;
+    repair::copy_slots(&slots, order);
     put_rows(numbers, domain, loss, give, ties, order, table);
     0
+}
+
+// Whether a row is the order, slot by slot. Both have at most 24.
+fn is_order(row: &[u8], order: &[u8]) -> bool
+    requires { ⌜ (length (now row) ≡ length (now order)) × (length (now order) ≤ 24) ⌝ }
+    ensures { λ r. ⌜ r ≡ same (now (row .entry)) (now (order .entry)) ⌝ }
+{
+    let mut p: u8 = 0;
+    while (p as usize) < order.len() {
+        let here = week::slot_in(row, Lot(p));
+        let stood = week::slot_in(order, Lot(p));
+        if here.0 != stood.0 {
+            return false;
+        }
+        p += 1;
+    }
+    true
+}
+
+// Whether a row is right for a loss: some repair of a break, and the order itself where the loss is none.
+fn is_right(
+    numbers: Numbers,
+    domain: &[u16],
+    loss: &[u16],
+    give: &[u16],
+    ties: &[u16],
+    order: &[u8],
+    lost: Lost,
+    row: &[u8],
+) -> bool
+    requires { ⌜ (refusal (week numbers (now domain) (now loss) (now give) (now ties)) ≡ 0) × ((length (now order) ≡ numbers .n) × (length (now row) ≡ numbers .n)) ⌝ }
+    ensures { λ r. ⌜ r ≡ right (week numbers (now (domain .entry)) (now (loss .entry)) (now (give .entry)) (now (ties .entry))) (now (order .entry)) (lotsOf lost) (now (row .entry)) ⌝ }
+{
+    if !is_break(loss, order, lost) {
+        return is_order(row, order);
+    }
+    repair::is_repair(numbers, domain, give, ties, order, lost, row)
+}
+
+// The first wrong row of a table, and the number of its rows where none is wrong.
+fn wrong_row(
+    numbers: Numbers,
+    domain: &[u16],
+    loss: &[u16],
+    give: &[u16],
+    ties: &[u16],
+    order: &[u8],
+    table: &[u8],
+) -> usize
+    requires { ⌜ (refusal (week numbers (now domain) (now loss) (now give) (now ties)) ≡ 0) × ((length (now order) ≡ numbers .n) × (length (now table) ≡ rowCount (numbers .n) (numbers .a) * numbers .n)) ⌝ }
+    ensures { λ r. ⌜ r ≡ firstWrong (week numbers (now (domain .entry)) (now (loss .entry)) (now (give .entry)) (now (ties .entry))) (now (order .entry)) (now (table .entry)) ⌝ }
+{
+    let n = numbers.n as usize;
+    let rows = repair::row_count(numbers.n, numbers.a);
+    let mut i: usize = 0;
+    while i < rows {
+        let begin = i * n;
+        let end = begin + n;
+        if !is_right(
+            numbers,
+            domain,
+            loss,
+            give,
+            ties,
+            order,
+            lost_at(numbers.n, i),
+            &table[begin..end],
+        ) {
+            return i;
+        }
+        i += 1;
+    }
+    rows
+}
+
+// Judges an order and its repair table, whoever made them: they are accepted if the order is a super solution, the row of each break
+// some repair of it and every other row the order. Answers 0, or the refusal: 1, 2, 3, 4, 6 or 7, and with 7 the first wrong row.
+pub fn check(
+    numbers: Numbers,
+    domain: &[u16],
+    loss: &[u16],
+    give: &[u16],
+    ties: &[u16],
+    order: &[u8],
+    table: &[u8],
+) -> Checked
+    ensures { λ r. ⌜ Judged (week numbers (now (domain .entry)) (now (loss .entry)) (now (give .entry)) (now (ties .entry))) (now (order .entry)) (now (table .entry)) (r .answer) (r .row) ⌝ }
+{
+    let refused = table_admits(numbers, domain, loss, give, ties, order, table);
+    if refused != 0 {
+        return Checked {
+            answer: refused,
+            row: 0,
+        };
+    }
+    if !week::keeps_rules(numbers.n, domain, ties, order) {
+        return Checked { answer: 6, row: 0 };
+    }
+    let wrong = wrong_row(numbers, domain, loss, give, ties, order, table);
+    if wrong < repair::row_count(numbers.n, numbers.a) {
+        return Checked {
+            answer: 7,
+            row: wrong as u32,
+        };
+    }
+    Checked { answer: 0, row: 0 }
 }

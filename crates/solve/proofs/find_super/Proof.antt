@@ -6,6 +6,7 @@ use native.Mathlib.Omega.{arith}
 use lib.ListN.{take, set, length-set}
 use borrow.Author.Needs.{needs}
 use Rattle.lex.specs.First.{Passes}
+use Rattle.lex.specs.Padded.{padded}
 use Rattle.lex.proofs.Search.{left}
 use Rattle.lex.proofs.Turn.{State, Turn, state-start, turn-deeper, turn-deeper-less, turn-full, turn-padded, turn-good, turn-found, turn-reject, turn-reject-less, turn-last, turn-back, turn-back-less, turn-none}
 use Rattle.lex.proofs.Every.{not-both}
@@ -13,8 +14,6 @@ use Rattle.week.specs.Rules.{fits, keepsHalf}
 use Rattle.week.specs.Tables.{Week, week, lots, pairRules}
 use Rattle.week.proofs.Rules.{half-nil, half-link}
 use Rattle.week.proofs.Tables.{accepted}
-use Rattle.repair.specs.Found.{padded}
-use Rattle.repair.proofs.Mends.{padded-some}
 use Rattle.solve.specs.Super.{robust}
 use Rattle.solve.proofs.Super.{super-space, super-passes, super-is}
 use Rattle.solve.proofs.find_super.Statement.{statement}
@@ -84,7 +83,7 @@ returns : tie.Need-returns Inv-lots μ-lots
 returns c =
     let p = c .before .before .before .before .before in
     let e = super-is (W p) (start p .pre) (some (take (lots (W p)) (set (head p .lots .slots) (head p .lots .d) (p .pick-slot .result .0)))) (turn-found (turn p) (super-passes (W p) (start p .pre) _ (turn-full (turn p) (c .before .before .before .if2 .taken)) (turn-good (turn p) (c .before .before .before .before .if1 .taken) (c .before .before .before .if2 .taken)) (sym (c .before .is-robust .ensures) ∙ c .if3 .taken)) (c .before .before .before .if2 .taken)) in
-    record { is = rw e; slots = rw e (padded-some _ _ (lots (W p)) (turn-full (turn p) (c .before .before .before .if2 .taken)) (turn-padded (turn p))) }
+    record { is = rw e; slots = rw e (turn-padded (turn p) (c .before .before .before .if2 .taken)) }
 
 add-from : tie.Need-add-from Inv-lots μ-lots
 add-from c = search needs

@@ -8,7 +8,7 @@ use borrow.Author.Needs.{needs}
 use Rattle.week.specs.Tables.{Week, week}
 use Rattle.week.proofs.Tables.{accepted}
 use Rattle.repair.specs.Found.{lotsOf}
-use Rattle.solve.proofs.Table.{copied-whole, copied-size, row-order, row-wide, row-mended}
+use Rattle.solve.proofs.Table.{copied-whole, copied-size, row-order, row-wide, row-none, row-mended}
 use Rattle.solve.proofs.put_row.Statement.{statement}
 use Rattle.solve.proofs.put_row.Tie as tie
 
@@ -42,18 +42,29 @@ find-repair-requires : tie.Need-find-repair-requires
 find-repair-requires c κs =
     let l = accepted _ (c .before .before .before .before .before .before .before .before .before .before .before .before .pre .0) .limits in (l .some, l .few)
 
-hand-out-requires : tie.Need-hand-out-requires
-hand-out-requires c κs =
-    let k = c .before .before .before .before .before .before in
-    omega (arith, copied-size (W k) (start k .args .order .now) (lotsOf (start k .args .lost)) (start k .pre .0) (start k .pre .1 .0) _ (whole k), row-wide (W k) (start k .args .order .now) (lotsOf (start k .args .lost)) (start k .pre .0) (start k .pre .1 .0) _ (c .before .find-repair .ensures .slots))
-
 same-length-2 : tie.Need-same-length-2
 same-length-2 c = search needs
 
 returns-2 : tie.Need-returns-2
 returns-2 c =
-    let k = c .before .before .before .before .before .before .before .before .before in
-    row-mended (W k) _ _ (start k .pre .0) (start k .pre .1 .0) _ _ _ _ (whole k) (c .before .before .before .before .find-repair .ensures .is) (c .before .before .before .before .find-repair .ensures .slots) (c .before .before .hand-out .ensures .1) (sym (c .before .before .before .before .before .before .is-break .ensures) ∙ not-false _ (c .before .before .before .before .before .if1 .left))
+    let k = c .before .before .before .before .before .before .before in
+    row-none (W k) _ _ (start k .pre .0) (start k .pre .1 .0) _ (whole k) (sym (c .before .before .find-repair .ensures .is) ∙ not-true _ (c .if2 .taken)) (sym (c .before .before .before .before .is-break .ensures) ∙ not-false _ (c .before .before .before .if1 .left))
+
+slice-aggregate-copy-slots : tie.Need-slice-aggregate-copy-slots
+slice-aggregate-copy-slots c = search needs
+
+copy-slots-requires-2 : tie.Need-copy-slots-requires-2
+copy-slots-requires-2 c κs =
+    let k = c .before .before .before .before .before .before .before .before .before .before in
+    omega (arith, copied-size (W k) (start k .args .order .now) (lotsOf (start k .args .lost)) (start k .pre .0) (start k .pre .1 .0) _ (whole k), row-wide (W k) (start k .args .order .now) (lotsOf (start k .args .lost)) (start k .pre .0) (start k .pre .1 .0) _ (c .before .before .before .before .before .find-repair .ensures .slots))
+
+same-length-3 : tie.Need-same-length-3
+same-length-3 c = search needs
+
+returns-3 : tie.Need-returns-3
+returns-3 c =
+    let k = c .before .before .before .before .before .before .before .before .before .before .before .before .before in
+    row-mended (W k) _ _ (start k .pre .0) (start k .pre .1 .0) _ _ _ (whole k) (sym (c .before .before .before .before .before .before .before .before .find-repair .ensures .is) ∙ not-false _ (c .before .before .before .before .before .before .if2 .left)) (c .before .before .before .before .before .before .before .before .find-repair .ensures .slots) (c .before .before .copy-slots2 .ensures) (sym (c .before .before .before .before .before .before .before .before .before .before .is-break .ensures) ∙ not-false _ (c .before .before .before .before .before .before .before .before .before .if1 .left))
 
 pub put-row-spec : {M : Type 1} → statement M
 put-row-spec =
@@ -64,6 +75,9 @@ put-row-spec =
     same-length
     returns
     find-repair-requires
-    hand-out-requires
     same-length-2
-    returns-2)
+    returns-2
+    slice-aggregate-copy-slots
+    copy-slots-requires-2
+    same-length-3
+    returns-3)

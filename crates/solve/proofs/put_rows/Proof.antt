@@ -2,17 +2,16 @@
 -- Assumes nothing.
 use mathlib.Core.Path.{_≡_, refl, sym, _∙_, ap}
 use mathlib.Core.List.{flatMap, []}
-use Prim.Native.Nat.{ℕ, _+_, _-_, _*_, _≤_}
+use Prim.Native.Nat.{_+_, _-_, _*_, _≤_}
 use native.Mathlib.Omega.{arith}
 use lib.ListN.{length, take, getD}
 use borrow.Author.Needs.{needs}
 use Rattle.week.specs.Tables.{Week, week}
 use Rattle.week.proofs.Tables.{accepted}
 use Rattle.repair.specs.Break.{lostSets, rowCount}
-use Rattle.repair.proofs.Rows.{count-small}
 use Rattle.solve.specs.Super.{rowOf}
-use Rattle.solve.proofs.Rows.{count-most, set-fewer}
-use Rattle.solve.proofs.Table.{flat-none, from-small, to-within, written-size, written-rows, part-size, written-all, row-size}
+use Rattle.solve.proofs.Rows.{set-fewer}
+use Rattle.solve.proofs.Table.{flat-none, place-small, place-inside, place-loss, written-size, written-rows, part-size, written-all, row-size}
 use Rattle.solve.proofs.put_rows.Statement.{statement}
 use Rattle.solve.proofs.put_rows.Tie as tie
 
@@ -21,10 +20,6 @@ Inv-loop numbers domain loss give ties order table₀ n rows i₀ table i = (i �
 
 abbrev μ-loop : tie.MeasureT-loop
 μ-loop numbers domain loss give ties order table₀ n rows i₀ table i = rows - i
-
--- the rows are few
-small : (r : tie.After-row-count Inv-loop μ-loop) → r .row-count .result ≤ 600
-small r = let l = accepted _ (r .before .before .before .before .before .before .before .before .pre .0) .limits in omega (arith, r .row-count .ensures, count-small (r .before .before .before .before .before .before .before .before .args .numbers .n) (r .before .before .before .before .before .before .before .before .args .numbers .a) (l .few) (l .breaks))
 
 -- a turn of the loop: the function's entry, the week, and the row's place within the table
 abbrev I : Type 0
@@ -36,10 +31,12 @@ start b = b .before .before .before .before .before .before .before .before .bef
 abbrev W : I → Week
 W b = week (start b .args .numbers) (start b .args .domain .now) (start b .args .loss .now) (start b .args .give .now) (start b .args .ties .now)
 
+-- the table as it was lent has the room that the rows so far have kept
+small : (b : I) → b .before .loop .i * start b .args .numbers .n ≤ 14400
+small b = place-small (W b) (start b .args .table .now) (b .before .loop .i) _ (start b .pre .0) (b .before .before .row-count .ensures) (start b .pre .1 .1) (b .loop-test .taken)
+
 inside : (b : I) → b .before .loop .i * start b .args .numbers .n + start b .args .numbers .n ≤ length (b .before .loop .table)
-inside b =
-    omega
-    (arith, to-within (start b .args .numbers .n) (b .before .loop .i) (b .before .before .row-count .result) (accepted _ (start b .pre .0) .limits .few) (b .loop-test .taken) (small (b .before .before)), start b .pre .1 .1, ap (λ (m : ℕ). m * start b .args .numbers .n) (b .before .before .row-count .ensures))
+inside b = rw (b .before .loop .inv .1 .0) (place-inside (W b) (start b .args .table .now) (b .before .loop .i) _ (start b .pre .0) (b .before .before .row-count .ensures) (start b .pre .1 .1) (b .loop-test .taken))
 
 -- the row that was written
 row : (p : tie.After-put-row Inv-loop μ-loop) → p .put-row .last .1 .1 .1 .1 .1 .1 .1 .0 ≡ rowOf (W (p .before .before .before)) (start (p .before .before .before) .args .order .now) (getD (lostSets (start (p .before .before .before) .args .numbers .n) (start (p .before .before .before) .args .numbers .a)) (p .before .before .before .before .loop .i) [])
@@ -56,16 +53,13 @@ loop-holds : tie.Need-loop-holds Inv-loop μ-loop
 loop-holds c = (omega arith, (refl, flat-none (rowOf (week (c .before .before .before .before .before .before .before .before .args .numbers) (c .before .before .before .before .before .before .before .before .args .domain .now) (c .before .before .before .before .before .before .before .before .args .loss .now) (c .before .before .before .before .before .before .before .before .args .give .now) (c .before .before .before .before .before .before .before .before .args .ties .now)) (c .before .before .before .before .before .before .before .before .args .order .now)) (lostSets (c .before .before .before .before .before .before .before .before .args .numbers .n) (c .before .before .before .before .before .before .before .before .args .numbers .a)) (c .before .before .before .before .before .before .before .before .args .table .now) (c .before .before .before .before .before .before .before .before .args .numbers .n)))
 
 mul-from : tie.Need-mul-from Inv-loop μ-loop
-mul-from c = omega (arith, from-small (c .before .before .before .before .before .before .before .before .before .before .args .numbers .n) (c .before .loop .i) (c .before .before .row-count .result) (accepted _ (c .before .before .before .before .before .before .before .before .before .before .pre .0) .limits .few) (c .loop-test .taken) (small (c .before .before)))
+mul-from c = omega (arith, small c)
 
 add-to : tie.Need-add-to Inv-loop μ-loop
-add-to c = omega (arith, from-small (c .before .before .before .before .before .before .before .before .before .before .args .numbers .n) (c .before .loop .i) (c .before .before .row-count .result) (accepted _ (c .before .before .before .before .before .before .before .before .before .before .pre .0) .limits .few) (c .loop-test .taken) (small (c .before .before)), accepted _ (c .before .before .before .before .before .before .before .before .before .before .pre .0) .limits .few)
+add-to c = omega (arith, small c, accepted _ (start c .pre .0) .limits .few)
 
 lost-at-requires : tie.Need-lost-at-requires Inv-loop μ-loop
-lost-at-requires c κs =
-    let l = accepted _ (c .before .before .before .before .before .before .before .before .before .before .pre .0) .limits in
-    let e = c .before .before .row-count .ensures in
-    (l .some, (l .few, omega (arith, count-most (c .before .before .before .before .before .before .before .before .before .before .args .numbers .n) (c .before .before .before .before .before .before .before .before .before .before .args .numbers .a) (l .breaks))))
+lost-at-requires c κs = place-loss (W c) (start c .args .table .now) (c .before .loop .i) _ (start c .pre .0) (c .before .before .row-count .ensures) (start c .pre .1 .1) (c .loop-test .taken)
 
 sub-put-row : tie.Need-sub-put-row Inv-loop μ-loop
 sub-put-row c = search needs

@@ -25,11 +25,8 @@ known : (e : E) → Ready (W e) (start e .args .order .now) (start e .args .tabl
 known e = ready (W e) (start e .args .order .now) (start e .args .table .now) (sym (e .before .table-admits .ensures) ∙ e .if1 .left)
 
 -- a super solution was found
-is-found : (e : tie.Else2) → e .before .before .find-super .result .is ≡ true
-is-found e = not-false _ (e .if2 .left)
-
 found : (e : tie.Else2) → isFound (firstSuper (W (e .before .before .before))) ≡ true
-found e = sym (e .before .before .find-super .ensures .is) ∙ is-found e
+found e = sym (e .before .before .find-super .ensures .is) ∙ not-false _ (e .if2 .left)
 
 table-admits-requires : tie.Need-table-admits-requires
 table-admits-requires c κs = search needs
@@ -55,11 +52,17 @@ same-length-4 c = search needs
 returns-2 : tie.Need-returns-2
 returns-2 c = by-none _ _ _ (known (c .before .before .before)) (sym (c .before .before .find-super .ensures .is) ∙ not-true _ (c .if2 .taken))
 
-hand-out-requires : tie.Need-hand-out-requires
-hand-out-requires c κs = wide _ _ _ (known (c .before .before .before .before)) _ (c .before .before .before .find-super .ensures .slots)
+slice-aggregate-copy-slots : tie.Need-slice-aggregate-copy-slots
+slice-aggregate-copy-slots c = search needs
+
+copy-slots-requires : tie.Need-copy-slots-requires
+copy-slots-requires c κs = wide _ _ _ (known (c .before .before .before .before .before .before)) _ (c .before .before .before .before .before .find-super .ensures .slots)
 
 put-rows-requires : tie.Need-put-rows-requires
-put-rows-requires c κs = (known (c .before .before .before .before .before .before .before .before .before) .fine, (put-size _ _ _ (known (c .before .before .before .before .before .before .before .before .before)) (found (c .before .before .before .before .before .before)) _ _ _ (is-found (c .before .before .before .before .before .before)) (c .before .before .before .before .before .before .before .before .find-super .ensures .slots) (c .before .before .before .before .hand-out .ensures .1), known (c .before .before .before .before .before .before .before .before .before) .room))
+put-rows-requires c κs =
+    let e = c .before .before .before .before .before .before .before .before in
+    let k = known (e .before .before .before) in
+    (k .fine, (put-size _ _ _ k (found e) _ _ (e .before .before .find-super .ensures .slots) (c .before .before .before .before .copy-slots .ensures), k .room))
 
 same-length-5 : tie.Need-same-length-5
 same-length-5 c = search needs
@@ -68,7 +71,9 @@ same-length-6 : tie.Need-same-length-6
 same-length-6 c = search needs
 
 returns-3 : tie.Need-returns-3
-returns-3 c = by-search _ _ _ (known (c .before .before .before .before .before .before .before .before .before .before .before .before)) (found (c .before .before .before .before .before .before .before .before .before)) _ _ _ (is-found (c .before .before .before .before .before .before .before .before .before)) (c .before .before .before .before .before .before .before .before .before .before .before .find-super .ensures .slots) (c .before .before .before .before .before .before .before .hand-out .ensures .1) _ (c .before .before .put-rows .ensures)
+returns-3 c =
+    let e = c .before .before .before .before .before .before .before .before .before .before .before in
+    by-search _ _ _ (known (e .before .before .before)) (found e) _ _ (e .before .before .find-super .ensures .slots) (c .before .before .before .before .before .before .before .copy-slots .ensures) _ (c .before .before .put-rows .ensures)
 
 pub solve-spec : {M : Type 1} → statement M
 solve-spec =
@@ -82,7 +87,8 @@ solve-spec =
     same-length-3
     same-length-4
     returns-2
-    hand-out-requires
+    slice-aggregate-copy-slots
+    copy-slots-requires
     put-rows-requires
     same-length-5
     same-length-6
