@@ -6,18 +6,19 @@ use mathlib.Core.List.{List, [], _∷_}
 use Prim.Native.Nat.{ℕ, zero, suc, _+_, _≤_, _<_}
 use native.Mathlib.Omega.{arith}
 use lib.Dec.{eqb}
-use lib.ListN.{length, getD, take, replicate, length-append, length-replicate}
-use lib.Seq.{take-all, take-append-seam}
+use lib.ListN.{length, getD, take, replicate, length-replicate}
+use lib.Seq.{take-all, length-take-le}
 use borrow.Author.Tests.{leb-true, le-leb, eqb-true, eqb-false}
 use Rattle.lex.specs.Every.{everyOf}
 use Rattle.lex.proofs.Every.{and-right, every-true, every-at}
+use Rattle.lex.proofs.Padded.{padded-length, padded-take}
 use Rattle.week.specs.Rules.{keeps}
 use Rattle.week.specs.Refusal.{unless}
 use Rattle.week.specs.Tables.{Week, lots, pairRules, refusal, admits}
 use Rattle.week.proofs.Tables.{passed-last, joined-admits, accepted, zero-first, zero-rest}
 use Rattle.sheet.specs.declared.Sheet.{Sheet}
 use Rattle.sheet.specs.Moves.{movesOf, names, stirs, placedAll, markedAll}
-use Rattle.sheet.specs.Sheet.{padded, zeros, blank, stands, openAnswer, newSheet, opened, markOk, soundMarks, copyAnswer, copied, resultOk, saveAnswer, withMoves, saved}
+use Rattle.sheet.specs.Sheet.{zeros, blank, stands, openAnswer, newSheet, opened, markOk, soundMarks, copyAnswer, copied, resultOk, saveAnswer, withMoves, saved}
 use Rattle.sheet.specs.History.{Call, copying, saving, step, after}
 use Rattle.sheet.proofs.Services.{Sound, sound-good, Passed, save-passed, copy-none, joined-none}
 use Rattle.sheet.proofs.Placing.{placed-length, marked-length, marked-other, marked-named}
@@ -35,27 +36,20 @@ zero-at zero p = refl
 zero-at (suc k) zero = refl
 zero-at (suc k) (suc p) = zero-at k p
 
-padded-lots : (n : ℕ) (o : List ℕ) → length o ≡ n → take n (padded n o) ≡ o
-unfolding padded
-padded-lots n o e = rw (take-all n o (omega arith), ← e, take-append-seam)
-
-padded-length : (n : ℕ) (o : List ℕ) → length o ≡ n → n ≤ 24 → length (padded n o) ≡ 24
-unfolding padded
-padded-length n o e h = rw (take-all n o (omega arith), length-append, length-replicate) (omega arith)
-
 new-held : (W : Week) (o : List ℕ) → refusal W ≡ 0 → length o ≡ lots W → keeps (pairRules W) o ≡ true → Held W (newSheet (lots W) o)
 unfolding newSheet stands soundMarks markOk zeros
 new-held W o w e k =
     let few = accepted W w .limits .few in
+    let size = length-take-le (lots W) o (omega arith) in
     record {
       week = w;
       sheet = record {
         lots = refl;
         count = omega arith;
-        order = ap (keeps (pairRules W)) (padded-lots (lots W) o e) ∙ k;
+        order = ap (keeps (pairRules W)) (padded-take 24 (take (lots W) o) (lots W) size ∙ take-all (lots W) o (omega arith)) ∙ k;
         marks = every-true (markOk 0 zeros) (lots W) (λ p l. le-leb (getD zeros p 0) 0 (let z = zero-at 24 p in omega arith));
       };
-      places = padded-length (lots W) o e few;
+      places = padded-length 24 (take (lots W) o) (omega arith);
       spots = length-replicate {A = ℕ} 24 0;
     }
 

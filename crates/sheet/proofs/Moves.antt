@@ -1,7 +1,7 @@
 -- Laws of moves: what a loop knows of the moves that are left, and what refusals 11, 12 and 13 say of one move.
 -- Assumes nothing.
 use mathlib.Core.Path.{_≡_, refl, sym, _∙_, ap}
-use mathlib.Core.Bool.{Bool, true, false, _||_, not}
+use mathlib.Core.Bool.{Bool, true, false, not, or-true, or-false}
 use mathlib.Core.List.{List, [], _∷_}
 use Prim.Native.Nat.{ℕ, suc, _+_, _*_, _%_, _≤_, _<_}
 use native.Mathlib.Omega.{arith}
@@ -141,10 +141,6 @@ module _ (R : Rules) (marks : List ℕ) (c p q : ℕ) where
   pub fresh-old : getD marks q 0 ≤ c → true ≡ freshAt R marks c p q
   unfolding freshAt
   fresh-old h = rw (le-leb (getD marks q 0) c h, or-true (not (near R p q)))
-    where
-      or-true : (b : Bool) → (b || true) ≡ true
-      or-true true = refl
-      or-true false = refl
 
   pub fresh-same : c < getD marks q 0 → p ≡ q → false ≡ freshAt R marks c p q
   unfolding freshAt near
@@ -153,10 +149,6 @@ module _ (R : Rules) (marks : List ℕ) (c p q : ℕ) where
   pub fresh-other : c < getD marks q 0 → (p ≡ q → ⊥) → not (tied R p q) ≡ freshAt R marks c p q
   unfolding freshAt near
   fresh-other h e = rw (lt-leb (getD marks q 0) c h, ne-eqb p q e, or-false (not (tied R p q)))
-    where
-      or-false : (b : Bool) → (b || false) ≡ b
-      or-false true = refl
-      or-false false = refl
 
 -- 13
 

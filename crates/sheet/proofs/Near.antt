@@ -1,7 +1,7 @@
 -- Laws of ties, lot by lot: what lots that are not tied may do, and that "tied" goes both ways on a symmetric table.
 -- Assumes nothing.
 use mathlib.Core.Path.{_≡_, refl, sym, _∙_}
-use mathlib.Core.Bool.{Bool, true, false, _&&_, _||_, not}
+use mathlib.Core.Bool.{Bool, true, false, _&&_, _||_, not, or-true}
 use Prim.Native.Nat.{ℕ, _<_}
 use lib.Dec.{eqb}
 use borrow.Author.Tests.{eqb-true, eqb-false, eq-eqb, ne-eqb, not-false}
@@ -49,10 +49,6 @@ module _ (R : Rules) where
   pub near-tied : (p q : ℕ) → tied R p q ≡ true → near R p q ≡ true
   unfolding near
   near-tied p q e = rw e (or-true (eqb p q))
-    where
-      or-true : (b : Bool) → (b || true) ≡ true
-      or-true true = refl
-      or-true false = refl
 
   module _ (mirror : Symmetric R) (p q : ℕ) (l : p < R .lots) (m : q < R .lots) where
     tied-mirror : (p ≡ q → ⊥) → tied R p q ≡ true → tied R q p ≡ true

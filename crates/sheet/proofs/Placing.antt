@@ -1,7 +1,7 @@
 -- Laws of moves put in: lot by lot, what an order and the marks hold afterwards, and that moves of other lots may go in either way round.
 -- Assumes nothing.
 use mathlib.Core.Path.{_≡_, refl, sym, _∙_, ap}
-use mathlib.Core.Bool.{Bool, true, false, _&&_, _||_, not}
+use mathlib.Core.Bool.{Bool, true, false, _&&_, _||_, not, or-true}
 use mathlib.Core.List.{List, [], _∷_}
 use Prim.Native.Nat.{ℕ, _<_}
 use lib.Dec.{eqb}
@@ -27,10 +27,6 @@ names-split x l p e = let c = or-cases (eqb (x .lot) p) (names l p) e in (eqb-fa
 pub names-later : (x : Move) (l : List Move) (p : ℕ) → names l p ≡ true → names (x ∷ l) p ≡ true
 unfolding names someOf
 names-later x l p e = rw e (or-true (isOf p x))
-  where
-    or-true : (b : Bool) → (b || true) ≡ true
-    or-true true = refl
-    or-true false = refl
 
 pub names-first : (x : Move) (l : List Move) (p : ℕ) → x .lot ≡ p → names (x ∷ l) p ≡ true
 unfolding names someOf isOf

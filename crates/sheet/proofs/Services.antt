@@ -11,6 +11,7 @@ use lib.Dec.{eqb, ltb, leb}
 use lib.ListN.{length, getD, set, take, replicate, length-take}
 use lib.Seq.{length-take-le, set-append-seam, take-suc, take-all}
 use borrow.Author.Tests.{leb-true, le-leb, lt-leb, lt-ltb, ltb-true, le-ltb, eqb-true, eq-eqb, ne-eqb}
+use Rattle.lex.specs.Padded.{padded}
 use Rattle.lex.proofs.Every.{false-of, each, each-all}
 use Rattle.week.specs.Refusal.{unless, orElse}
 use Rattle.week.specs.Rules.{Rules, keeps, keepsHalf}
@@ -22,15 +23,15 @@ use Rattle.sheet.specs.declared.Opened.{Opened}
 use Rattle.sheet.specs.declared.Copied.{Copied}
 use Rattle.sheet.specs.declared.Saved.{Saved}
 use Rattle.sheet.specs.Moves.{movesOf, movesOk, fresh}
-use Rattle.sheet.specs.Sheet.{padded, zeros, blank, stands, openAnswer, newSheet, opened, soundMarks, soundTests, sound, copyAnswer, copied, resultOk, saveAnswer, withMoves, saved}
+use Rattle.sheet.specs.Sheet.{zeros, blank, stands, openAnswer, newSheet, opened, soundMarks, soundTests, sound, copyAnswer, copied, resultOk, saveAnswer, withMoves, saved}
 
 -- Padding, lot by lot
 
-pub pad-none : (s : List ℕ) → replicate 24 0 ≡ padded 0 s
+pub pad-none : (s : List ℕ) → replicate 24 0 ≡ padded 24 (take 0 s)
 unfolding padded
 pad-none s = refl
 
-pub pad-more : (s out : List ℕ) (i : ℕ) → i < length s → i < 24 → out ≡ padded i s → set out i (getD s i 0) ≡ padded (i + 1) s
+pub pad-more : (s out : List ℕ) (i : ℕ) → i < length s → i < 24 → out ≡ padded 24 (take i s) → set out i (getD s i 0) ≡ padded 24 (take (i + 1) s)
 unfolding padded
 pad-more s out i h k e =
     ap (λ (l : List ℕ). set l i a) e
@@ -38,13 +39,13 @@ pad-more s out i h k e =
     ∙ (ap (λ (j : ℕ). set (take i s ++ 0 ∷ replicate (24 - suc i) 0) j a) (sym (length-take-le i s (omega arith)))
     ∙ (set-append-seam (take i s) 0 (replicate (24 - suc i) 0) a
     ∙ (sym (append-assoc (take i s) (a ∷ []) (replicate (24 - suc i) 0))
-    ∙ rw (add-one, take-suc s i 0)))))
+    ∙ rw (add-one, length-take-le (suc i) s h, take-suc s i 0 h)))))
   where
     a : ℕ
     a = getD s i 0
 
-    left : 24 - i ≡ suc (24 - suc i)
-    left = omega arith
+    left : 24 - length (take i s) ≡ suc (24 - suc i)
+    left = let e = length-take-le i s (omega arith) in omega arith
 
 -- What the tables of a week that is not refused say
 
@@ -124,7 +125,7 @@ module _ (W : Week) (o : List ℕ) where
       unfolding openAnswer
       open-none e = runs-on (admits true sized W) (unless (keeps (pairRules W) o) 6) (sym open-judged ∙ z) (goes-off (keeps (pairRules W) o) 6 (sym open-stands ∙ e))
 
-pub new-sheet : (n : ℕ) (o s : List ℕ) → s ≡ padded n o → _≡_ {A = Sheet} (record { n = n; order = s; saves = 0; marks = zeros }) (newSheet n o)
+pub new-sheet : (n : ℕ) (o s : List ℕ) → s ≡ padded 24 (take n o) → _≡_ {A = Sheet} (record { n = n; order = s; saves = 0; marks = zeros }) (newSheet n o)
 unfolding newSheet
 new-sheet n o s e = ap (λ (l : List ℕ). record { n = n; order = l; saves = 0; marks = zeros }) e
 
@@ -268,13 +269,13 @@ module _ (W : Week) (o : List ℕ) (S : Sheet) where
 
 module _ (W : Week) (S : Sheet) where
   abbrev copy-of : ℕ → Copied
-  copy-of a = record { answer = a; order = cond (eqb a 0) (padded (lots W) (S .order)) zeros; copy = cond (eqb a 0) (S .saves) 0 }
+  copy-of a = record { answer = a; order = cond (eqb a 0) (padded 24 (take (lots W) (S .order))) zeros; copy = cond (eqb a 0) (S .saves) 0 }
 
   pub copy-refused : (k : ℕ) → k ≡ copyAnswer W S → (k ≡ 0 → ⊥) → _≡_ {A = Copied} (record { answer = k; order = zeros; copy = 0 }) (copied W S)
   unfolding copied
   copy-refused k e h = sym (rw (ne-eqb k 0 h)) ∙ ap copy-of e
 
-  pub copy-done : (o : List ℕ) → 0 ≡ copyAnswer W S → o ≡ padded (lots W) (S .order) → _≡_ {A = Copied} (record { answer = 0; order = o; copy = S .saves }) (copied W S)
+  pub copy-done : (o : List ℕ) → 0 ≡ copyAnswer W S → o ≡ padded 24 (take (lots W) (S .order)) → _≡_ {A = Copied} (record { answer = 0; order = o; copy = S .saves }) (copied W S)
   unfolding copied
   copy-done o e f = ap (λ (l : List ℕ). record { answer = 0; order = l; copy = S .saves }) f ∙ ap copy-of e
 

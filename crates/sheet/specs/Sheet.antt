@@ -1,11 +1,12 @@
 -- The sheet: what open, copy and save answer and give, for every sheet, week, copy number and moves.
 -- Assumes nothing.
 use mathlib.Core.Bool.{Bool, true, _&&_, cond}
-use mathlib.Core.List.{List, [], _∷_, _++_}
-use Prim.Native.Nat.{ℕ, _+_, _-_}
+use mathlib.Core.List.{List, [], _∷_}
+use Prim.Native.Nat.{ℕ, _+_}
 use lib.Dec.{eqb, ltb, leb}
 use lib.ListN.{length, getD, take, replicate}
 use Rattle.lex.specs.Every.{all, every, everyOf}
+use Rattle.lex.specs.Padded.{padded}
 use Rattle.week.specs.Refusal.{unless, orElse}
 use Rattle.week.specs.Rules.{Rules, keeps}
 use Rattle.week.specs.Tables.{Week, lots, pairRules, refusal, admits}
@@ -14,10 +15,6 @@ use Rattle.sheet.specs.declared.Opened.{Opened}
 use Rattle.sheet.specs.declared.Copied.{Copied}
 use Rattle.sheet.specs.declared.Saved.{Saved}
 use Rattle.sheet.specs.Moves.{movesOf, movesOk, fresh, stirs, placedAll, markedAll}
-
--- the places of lots, then 0 up to 24 places
-unfoldable pub padded : ℕ → List ℕ → List ℕ
-padded n s = take n s ++ replicate (24 - n) 0
 
 unfoldable pub zeros : List ℕ
 zeros = replicate 24 0
@@ -36,7 +33,7 @@ unfoldable pub openAnswer : Week → List ℕ → ℕ
 openAnswer W o = orElse (admits true (eqb (length o) (lots W)) W) (unless (keeps (pairRules W) o) 6)
 
 unfoldable pub newSheet : ℕ → List ℕ → Sheet
-newSheet n o = record { n = n; order = padded n o; saves = 0; marks = zeros }
+newSheet n o = record { n = n; order = padded 24 (take n o); saves = 0; marks = zeros }
 
 unfoldable pub opened : Week → List ℕ → Opened
 opened W o = record { answer = openAnswer W o; sheet = cond (eqb (openAnswer W o) 0) (newSheet (lots W) o) blank }
@@ -68,7 +65,7 @@ copyAnswer W S = orElse (refusal W) (unless (sound (pairRules W) S) 9)
 unfoldable pub copied : Week → Sheet → Copied
 copied W S = record {
   answer = copyAnswer W S;
-  order = cond (eqb (copyAnswer W S) 0) (padded (lots W) (S .order)) zeros;
+  order = cond (eqb (copyAnswer W S) 0) (padded 24 (take (lots W) (S .order))) zeros;
   copy = cond (eqb (copyAnswer W S) 0) (S .saves) 0;
 }
 

@@ -2,12 +2,13 @@
 ghost use mathlib.Core.Path.{_≡_};
 ghost use mathlib.Core.Bool.{true};
 ghost use Prim.Native.Nat.{_≤_, _<_};
-ghost use lib.ListN.{length, getD, set, drop};
+ghost use lib.ListN.{length, getD, set, take, drop};
 ghost use Rattle.lex.specs.Every.{everyOf};
+ghost use Rattle.lex.specs.Padded.{padded};
 ghost use Rattle.week.specs.Rules.{rules};
 ghost use Rattle.week.specs.Tables.{week, tiesOk};
 ghost use Rattle.sheet.specs.Moves.{move, movesOf, names, moveOk, once, movesOk, freshAt, freshLot, fresh, stirs, placedAll, markedAll};
-ghost use Rattle.sheet.specs.Sheet.{padded, blank, stands, opened, soundMarks, sound, copied, resultOk, saveAnswer, withMoves, left, saved};
+ghost use Rattle.sheet.specs.Sheet.{blank, stands, opened, soundMarks, sound, copied, resultOk, saveAnswer, withMoves, left, saved};
 use week::Lot;
 use week::Numbers;
 use week::Order;
@@ -45,7 +46,7 @@ pub struct Saved {
 // The places of the lots, then 0 up to 24 places.
 fn pad(n: u32, order: &[u8]) -> [u8; 24]
     requires { ⌜ (n ≤ 24) × (n ≤ length (now order)) ⌝ }
-    ensures { λ r. ⌜ r ≡ padded n (now (order .entry)) ⌝ }
+    ensures { λ r. ⌜ r ≡ padded 24 (take n (now (order .entry))) ⌝ }
 {
     let mut out = Order::empty();
     let mut p: u8 = 0;

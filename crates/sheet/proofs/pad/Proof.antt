@@ -3,15 +3,15 @@
 use mathlib.Core.Path.{_≡_, _∙_, ap}
 use Prim.Native.Nat.{ℕ, _≤_, _-_}
 use native.Mathlib.Omega.{arith}
-use lib.ListN.{set}
+use lib.ListN.{set, take}
 use borrow.Author.Needs.{needs}
-use Rattle.sheet.specs.Sheet.{padded}
+use Rattle.lex.specs.Padded.{padded}
 use Rattle.sheet.proofs.Services.{pad-none, pad-more}
 use Rattle.sheet.proofs.pad.Statement.{statement}
 use Rattle.sheet.proofs.pad.Tie as tie
 
 abbrev Inv-loop : tie.InvT-loop
-Inv-loop n order out₀ p₀ out p = (p ≤ n) × (out .slots ≡ padded p order)
+Inv-loop n order out₀ p₀ out p = (p ≤ n) × (out .slots ≡ padded 24 (take p order))
 
 abbrev μ-loop : tie.MeasureT-loop
 μ-loop n order out₀ p₀ out p = n - p
@@ -43,7 +43,10 @@ loop-again c =
     (omega arith, c .placed .ensures ∙ ap (set (c .before .before .before .loop .out .slots) (c .before .before .before .loop .p)) (c .before .slot-in .ensures) ∙ pad-more s (c .before .before .before .loop .out .slots) (c .before .before .before .loop .p) (omega arith) (omega arith) (c .before .before .before .loop .inv .1))
 
 returns : tie.Need-returns Inv-loop μ-loop
-returns c = c .before .before .loop .inv .1 ∙ ap (λ (j : ℕ). padded j (c .before .before .before .before .before .args .order .now)) (omega arith)
+returns c =
+    let a = c .before .before .before .before .before .args in
+    let e : c .before .before .loop .p ≡ a .n = omega arith in
+    c .before .before .loop .inv .1 ∙ ap (λ (j : ℕ). padded 24 (take j (a .order .now))) e
 
 pub pad-spec : {M : Type 1} → statement M
 pad-spec =
