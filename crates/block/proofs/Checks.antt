@@ -1,7 +1,7 @@
 -- Laws of reading, check by check: what each loop and each return of the code shows of the definitions.
 -- Assumes nothing.
 use mathlib.Core.Path.{_≡_, refl, sym, _∙_, ap, ap₂}
-use mathlib.Core.Bool.{Bool, true, false, _&&_, not, cond}
+use mathlib.Core.Bool.{Bool, true, false, _&&_, cond}
 use mathlib.Core.Logic.{⊎-elim}
 use mathlib.Core.List.{List}
 use Prim.Native.Nat.{ℕ, zero, suc, _+_, _*_, _-_, _/_, _%_, _^_, _≤_, _<_}
@@ -10,31 +10,18 @@ use native.Mathlib.Omega.{arith}
 use native.Mathlib.Numerals.{add-one}
 use lib.Dec.{eqb, leb}
 use lib.ListN.{length, take, drop}
-use borrow.Author.Tests.{leb-true, le-leb, eqb-true, eq-eqb, ne-eqb}
+use borrow.Author.Tests.{leb-true, le-leb, eqb-true, eq-eqb}
 use Rattle.lex.specs.Every.{oneIf}
-use Rattle.lex.proofs.Every.{both, and-left, and-right, false-of, not-both, each, each-all, oneIf-le}
-use Rattle.week.specs.Refusal.{unless, orElse}
+use Rattle.lex.specs.Padded.{padded}
+use Rattle.lex.proofs.Every.{both, and-left, and-right, false-of, each, each-all, oneIf-le}
 use Rattle.week.specs.Rules.{bitOf, inside, wordOf}
-use Rattle.week.specs.Tables.{Week, refusal, admits, numbersOk, lotTests, lotOk, lotOkAt, lengthsOk, wordsOk, tiesOk, lots, pairRules}
+use Rattle.week.specs.Tables.{lotOk, lotOkAt}
 use Rattle.week.proofs.Tables.{zero-first, zero-rest, halts, runs-on}
 use Rattle.block.specs.Fnv.{fnv}
-use Rattle.block.specs.Parts.{orZero, pairAt, pairsBefore, pairNumber}
+use Rattle.block.specs.Parts.{listOf, orZero, pairAt, pairsBefore, pairNumber}
 use Rattle.week.specs.declared.Numbers.{Numbers}
 use Rattle.block.specs.Reading.{contentIn, wordIn, numbersIn, wordsAt, wordsIn, bufferTests, buffersOk, wholeBlocks, holds4, blockRefusal, blocksRefusal, tieHeld}
-use Rattle.block.proofs.Parts.{list-at, list-beyond}
-
--- 1: week's judge says 1 exactly of wrong numbers
-
-pub judged-numbers : (W : Week) {j : ℕ} → j ≡ refusal W → not (eqb j 1) ≡ numbersOk (W .numbers)
-unfolding admits
-judged-numbers W {j} e = ap (λ (k : ℕ). not (eqb k 1)) e ∙ go (numbersOk (W .numbers)) (lengthsOk (lots W) (W .domain) (W .loss) (W .give) (W .ties)) (wordsOk (lots W) (W .domain) (W .loss) (W .give)) (tiesOk (pairRules W))
-  where
-    go : (a b c d : Bool) → not (eqb (orElse (unless a 1) (orElse (unless b 2) (orElse (unless c 3) (unless d 4)))) 1) ≡ a
-    go false b c d = refl
-    go true false c d = refl
-    go true true false d = refl
-    go true true true false = refl
-    go true true true true = refl
+use Rattle.block.proofs.Parts.{length-list, list-at, list-beyond, list-padded}
 
 -- 2
 
@@ -144,6 +131,11 @@ module _ (F : List ℕ) (n k p : ℕ) where
   unfolding orZero wordsIn
   lot-outside l = sym (list-beyond (wordsAt F n k) n p l)
 
+-- the table in a buffer of 24 words
+pub words-padded : (F : List ℕ) (n k : ℕ) → n ≤ 24 → listOf (orZero (wordsIn F n k)) 24 ≡ padded 24 (wordsIn F n k)
+unfolding wordsIn
+words-padded F n k h = list-padded 24 (listOf (wordsAt F n k) n) (let l = length-list (wordsAt F n k) n in omega arith)
+
 before-small : (m k : ℕ) → m ≤ 24 → pairsBefore m k ≤ 24 * k
 unfolding pairsBefore
 before-small m zero h = omega arith
@@ -156,30 +148,9 @@ number-small n p q h g l = let r = before-small (n - 1) p (omega arith) in omega
 
 -- 3
 
-module _ (D L G : List ℕ) (p : ℕ) where
-  lot-is : lotOkAt D L G p ≡ lotOk (orZero D p) (orZero L p) (orZero G p)
-  unfolding lotOkAt orZero
-  lot-is = refl
-
-  lot-false : (lotOk (orZero D p) (orZero L p) (orZero G p) ≡ true → ⊥) → false ≡ lotOkAt D L G p
-  lot-false h = sym (false-of (lotOkAt D L G p) (λ t. h (sym lot-is ∙ t)))
-
-  module _ {x : ℕ} (d : x ≡ orZero D p) where
-    pub lot-none : x ≡ 0 → false ≡ lotOkAt D L G p
-    unfolding lotOk
-    lot-none e = lot-false (λ t. not-both (each (lotTests (orZero D p) (orZero L p) (orZero G p)) t .0) (ap not (eq-eqb (orZero D p) 0 (sym d ∙ e))))
-
-    pub lot-loss : {y : ℕ} → y ≡ orZero L p → inside y x ≡ false → false ≡ lotOkAt D L G p
-    unfolding lotOk
-    lot-loss l e = lot-false (λ t. not-both (each (lotTests (orZero D p) (orZero L p) (orZero G p)) t .1 .0) (sym (ap₂ inside l d) ∙ e))
-
-    pub lot-give : {z : ℕ} → z ≡ orZero G p → inside z x ≡ false → false ≡ lotOkAt D L G p
-    unfolding lotOk
-    lot-give g e = lot-false (λ t. not-both (each (lotTests (orZero D p) (orZero L p) (orZero G p)) t .1 .1 .0) (sym (ap₂ inside g d) ∙ e))
-
-    pub lot-good : {y z : ℕ} → y ≡ orZero L p → z ≡ orZero G p → (x ≡ 0 → ⊥) → inside y x ≡ true → inside z x ≡ true → true ≡ lotOkAt D L G p
-    unfolding lotOk
-    lot-good l g h e f = sym (lot-is ∙ each-all (lotTests (orZero D p) (orZero L p) (orZero G p)) (ap not (ne-eqb (orZero D p) 0 (λ z. h (d ∙ z))), (sym (ap₂ inside l d) ∙ e, (sym (ap₂ inside g d) ∙ f, tt))))
+pub lot-held : (D L G : List ℕ) (p : ℕ) {x y z : ℕ} → x ≡ orZero D p → y ≡ orZero L p → z ≡ orZero G p → lotOk x y z ≡ lotOkAt D L G p
+unfolding lotOkAt orZero
+lot-held D L G p d l g = rw (d, l, g)
 
 -- 4, of one word
 

@@ -8,12 +8,13 @@ use native.Mathlib.Omega.{arith}
 use lib.Dec.{eqb}
 use lib.ListN.{length}
 use borrow.Author.Tests.{eqb-true, eq-eqb, ne-eqb}
+use Rattle.lex.specs.Padded.{padded}
 use Rattle.week.specs.declared.Numbers.{Numbers}
-use Rattle.week.specs.Tables.{Week, lots, pairRules, numbersOk, wordsOk, tiesOk}
-use Rattle.week.proofs.Tables.{Limits, limits, stops, goes-on, goes-off, passed-first, passed-rest, passed-last, numbers-good, runs-on, zero-first, zero-rest}
-use Rattle.block.specs.Parts.{padded}
+use Rattle.week.specs.Tables.{Week, lots, pairRules, refusal, admits, numbersOk, lengthsOk, wordsOk, tiesOk}
+use Rattle.week.proofs.Tables.{Limits, limits, Lengths, stops, goes-on, goes-off, passed-first, passed-rest, passed-last, numbers-good, lengths-good, runs-on, zero-first, zero-rest}
 use Rattle.block.specs.File.{blocks}
-use Rattle.block.specs.Reading.{numbersIn, wordsIn, tiesIn, weekOf, weekIn, buffersOk, wholeBlocks, blocksRefusal, fillingOk, heldRefusal, fileRefusal, readRefusal, given, noNumbers, givenWeek, readOf}
+use Rattle.block.specs.Reading.{numbersIn, wordsAt, wordsIn, tiesAt, tiesIn, weekOf, weekIn, buffersOk, wholeBlocks, blocksRefusal, fillingOk, heldRefusal, fileRefusal, readRefusal, given, noNumbers, givenWeek, readOf}
+use Rattle.block.proofs.Parts.{length-list}
 use Rattle.block.proofs.Checks.{Whole, whole, whole-good}
 
 pub record Held (F : List ℕ) : Type 0 where
@@ -59,6 +60,20 @@ not-refused F h =
 
 pub held-limits : (F : List ℕ) {N : Numbers} → fileRefusal F ≡ 0 → N ≡ numbersIn F → Limits N
 held-limits F e f = subst⁻¹ Limits f (held F e .limits)
+
+-- the week of a file that is not refused is accepted
+pub week-fine : (F : List ℕ) → fileRefusal F ≡ 0 → refusal (weekIn F) ≡ 0
+unfolding admits weekOf wordsIn tiesIn
+week-fine F e =
+    let h = held F e in
+    let n = numbersIn F .n in
+    sym (goes-on (numbersOk (numbersIn F)) 1 _ (sym (numbers-good (numbersIn F) (h .limits)))
+    (goes-on (lengthsOk n (wordsIn F n 0) (wordsIn F n 1) (wordsIn F n 2) (tiesIn F n)) 2 _ (sym (lengths-good n (wordsIn F n 0) (wordsIn F n 1) (wordsIn F n 2) (tiesIn F n) (sizes n)))
+    (goes-on (wordsOk n (wordsIn F n 0) (wordsIn F n 1) (wordsIn F n 2)) 3 _ (h .words)
+    (goes-off (tiesOk (pairRules (weekIn F))) 4 (h .ties)))))
+  where
+    sizes : (n : ℕ) → Lengths n (wordsIn F n 0) (wordsIn F n 1) (wordsIn F n 2) (tiesIn F n)
+    sizes n = record { domain = length-list (wordsAt F n 0) n; loss = length-list (wordsAt F n 1) n; give = length-list (wordsAt F n 2) n; ties = length-list (tiesAt F n) (n * n * 16) }
 
 module _ (F d l g t : List ℕ) where
   pub read-two : buffersOk (length d) (length l) (length g) (length t) ≡ false → 2 ≡ readRefusal F d l g t

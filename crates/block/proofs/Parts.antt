@@ -1,14 +1,15 @@
 -- Laws of lists by position, of loops that fill a buffer from the front, and of pairs by number.
 -- Assumes nothing.
-use mathlib.Core.Path.{_≡_, refl, sym, _∙_, ap}
+use mathlib.Core.Path.{_≡_, refl, sym, _∙_, ap, ap₂}
 use mathlib.Core.List.{List, [], _∷_, _++_, append-nil}
 use Prim.Native.Nat.{ℕ, zero, suc, _+_, _-_, _≤_, _<_}
 use native.Mathlib.Omega.{arith}
 use native.Mathlib.Nat.{zero-add, suc-add, sub-zero}
 use native.Mathlib.Numerals.{add-one}
-use lib.ListN.{length, getD, set, take, drop, drop-of-length-le, length-append, length-drop, take-append-drop, List·getD-eq-default}
+use lib.ListN.{length, getD, set, take, drop, replicate, drop-of-length-le, length-append, length-drop, take-append-drop, List·getD-eq-default}
 use lib.Seq.{ext-getD, length-take-le}
 use borrow.Author.Tests.{lt-ltb, le-ltb}
+use Rattle.lex.specs.Padded.{padded}
 use Rattle.block.specs.Parts.{listOf, orZero, Pair, pair, pairFrom, pairsBefore}
 
 -- Lists by position
@@ -45,6 +46,20 @@ list-join f (suc m) k = simp suc-add (ap (λ (t : List ℕ). f 0 ∷ t) (list-jo
 -- a list is the list of what stands at its places
 pub list-self : (s : List ℕ) → listOf (orZero s) (length s) ≡ s
 list-self s = ext-getD 0 (listOf (orZero s) (length s)) s (length-list (orZero s) (length s)) (λ i l. list-at (orZero s) (length s) i (let h = length-list (orZero s) (length s) in omega arith) ∙ or-zero s i)
+
+list-zeros : (n : ℕ) → listOf (λ i. 0) n ≡ replicate n 0
+unfolding listOf
+list-zeros zero = refl
+list-zeros (suc n) = ap (λ (t : List ℕ). 0 ∷ t) (list-zeros n)
+
+-- and padded, of what stands at its places and 0 beyond
+pub list-padded : (n : ℕ) (s : List ℕ) → length s ≤ n → listOf (orZero s) n ≡ padded n s
+unfolding padded
+list-padded n s h =
+    let e : n ≡ length s + (n - length s) = omega arith in
+    ap (listOf (orZero s)) e
+    ∙ list-join (orZero s) (length s) (n - length s)
+    ∙ ap₂ _++_ (list-self s) (list-cong (λ i. orZero s (length s + i)) (λ i. 0) (n - length s) (λ i l. or-zero s (length s + i) ∙ List·getD-eq-default s 0 (omega arith)) ∙ list-zeros (n - length s))
 
 -- A loop that fills a buffer d from the front: after i stores it holds f 0 .. f (i - 1), and then the rest of d
 

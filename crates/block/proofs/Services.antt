@@ -3,18 +3,17 @@
 use mathlib.Core.Path.{_≡_, refl, sym, _∙_, ap}
 use mathlib.Core.Bool.{Bool, true, cond}
 use mathlib.Core.List.{List}
-use Prim.Native.Nat.{ℕ, zero, suc, _*_, _≤_, _<_}
+use Prim.Native.Nat.{ℕ, zero, suc, _*_, _<_}
 use native.Mathlib.Omega.{arith}
 use lib.Dec.{eqb}
 use lib.ListN.{length, getD, set, take}
-use lib.Seq.{ext-getD, getD-take, length-take-le}
 use borrow.Author.Tests.{eq-eqb, ne-eqb}
+use Rattle.lex.specs.Padded.{padded}
+use Rattle.lex.proofs.Padded.{padded-take}
 use Rattle.week.specs.Tables.{Week, lots, refusal, admits}
 use Rattle.week.proofs.Tables.{passed-rest}
-use Rattle.block.specs.Parts.{listOf, orZero, padded}
 use Rattle.block.specs.File.{blocks, fileOf, Written, written, writeRefusal, writeOf}
 use Rattle.block.specs.Reading.{weekOf, weekIn, buffersOk, fileRefusal, readRefusal, given, noNumbers, givenWeek, readOf}
-use Rattle.block.proofs.Parts.{length-list, list-at, or-zero}
 use Rattle.block.proofs.Writing.{write-length, write-done}
 use Rattle.block.proofs.Given.{Held, held, read-file}
 use Rattle.block.proofs.RoundTrip.{Words16, week-written, held-written}
@@ -97,10 +96,5 @@ module _ (W : Week) (F : List ℕ) (small : Words16 W) (e : writeOf W F .answer 
       ∙ (read-gives (fileOf W) d l g t (read-answer (fileOf W) d l g t ∙ r) ∙ ap givenWeek (week-written W small week-ok))
 
 -- and a table comes back from its buffer whole
-pub table-back : (m : ℕ) (s : List ℕ) → length s ≤ m → take (length s) (padded m s) ≡ s
-unfolding padded
-table-back m s l =
-    let k = length-list (orZero s) m in
-    let t : length (take (length s) (listOf (orZero s) m)) ≡ length s = length-take-le (length s) (listOf (orZero s) m) (omega arith) in
-    ext-getD 0 (take (length s) (listOf (orZero s) m)) s t
-    (λ i h. getD-take (length s) (listOf (orZero s) m) i 0 (omega arith) ∙ (list-at (orZero s) m i (omega arith) ∙ or-zero s i))
+pub table-back : (m : ℕ) (s : List ℕ) → take (length s) (padded m s) ≡ s
+table-back m s = padded-take m s (length s) refl

@@ -13,14 +13,15 @@ use lib.Dec.{eqb}
 use lib.Pow.{pow-add, pow-pos}
 use borrow.Author.Tests.{lt-ltb, le-ltb}
 use Rattle.lex.specs.Every.{imp, every, oneIf}
+use Rattle.lex.specs.Padded.{padded}
 use Rattle.lex.proofs.Every.{not-both, same-truth, imp-in, every-true, every-at}
 use Rattle.week.specs.Rules.{Rules, rules, bitOf, inside, inDomain, tieWord, together, wordOf}
 use Rattle.week.specs.Tables.{bitOk, wordOk, pairOk, lotTiesOk, lotTiesHalf, tiesOk}
-use Rattle.week.proofs.Words.{bit-zero, inside-at}
+use Rattle.week.proofs.Words.{bit-zero, inside-at, square-small}
 use Rattle.week.proofs.Tables.{Right, bit-read, bit-make, ties-half}
-use Rattle.block.specs.Parts.{pair, orZero, pairAt, pairNumber}
+use Rattle.block.specs.Parts.{listOf, pair, orZero, pairAt, pairNumber}
 use Rattle.block.specs.Reading.{wordIn, wordsAt, wordsIn, pairWordIn, pairBitIn, tieIn, tiesAt, tiesIn, tieHeld}
-use Rattle.block.proofs.Parts.{list-at, list-beyond}
+use Rattle.block.proofs.Parts.{length-list, list-at, list-beyond, list-padded}
 use Rattle.block.proofs.Checks.{word-small}
 use Rattle.block.proofs.Pairs.{pair-of-number, number-below, IsPair, is-pair}
 
@@ -90,6 +91,11 @@ module _ (F : List ℕ) (n : ℕ) where
   pub tie-outside : (i : ℕ) → n * n * 16 ≤ i → 0 ≡ orZero (tiesIn F n) i
   unfolding orZero tiesIn
   tie-outside i l = sym (list-beyond (tiesAt F n) (n * n * 16) i l)
+
+  -- the table in a buffer of 9,216 words
+  pub ties-padded : n ≤ 24 → listOf (orZero (tiesIn F n)) 9216 ≡ padded 9216 (tiesIn F n)
+  unfolding tiesIn
+  ties-padded h = list-padded 9216 (listOf (tiesAt F n) (n * n * 16)) (let l = length-list (tiesAt F n) (n * n * 16) in let s = square-small h in omega arith)
 
   pub tie-read : (p q v : ℕ) → p < n → q < n → v < 16 → tieWord n (tiesIn F n) p v q ≡ tieIn F n p v q
   unfolding tieWord tiesIn tiesAt

@@ -9,22 +9,21 @@ use native.Mathlib.Omega.{arith}
 use lib.ListN.{length, getD, take, drop, length-drop}
 use lib.Seq.{ext-getD, getD-take, getD-drop, length-take-le}
 use borrow.Author.Tests.{eqb-true}
-use Rattle.lex.specs.Every.{every}
 use Rattle.lex.proofs.Every.{every-at}
-use Rattle.week.specs.Tables.{Week, pairRules, refusal, admits, numbersOk, lengthsOk, wordsOk, tiesOk}
-use Rattle.week.proofs.Tables.{Lengths, goes-on, goes-off, passed-first, passed-rest, passed-last, numbers-good, lengths-good}
+use Rattle.week.specs.Tables.{Week, refusal}
+use Rattle.week.proofs.Tables.{passed-first, passed-rest, passed-last}
 use Rattle.block.specs.Fnv.{fnv}
 use Rattle.block.specs.Parts.{listOf, byteOf, pairAt}
 use Rattle.block.specs.Content.{numberAt, pairWord, tableWord, contentSize, contentByte}
 use Rattle.block.specs.File.{blocks, bodyByte, body, blockOf, fileByte, fileOf}
-use Rattle.block.specs.Reading.{contentIn, wordIn, numbersIn, wordsAt, wordsIn, pairWordIn, tiesAt, tiesIn, weekOf, weekIn, byteIs, holds4, blockRefusal, fillsAt, fillingOk, fileRefusal}
+use Rattle.block.specs.Reading.{contentIn, wordIn, numbersIn, wordsIn, pairWordIn, weekOf, weekIn, byteIs, holds4, blockRefusal, fillsAt, fillingOk, fileRefusal}
 use Rattle.block.proofs.Parts.{length-list, list-at, or-zero}
 use Rattle.block.proofs.Sizes.{size-words}
 use Rattle.block.proofs.Content.{table-domain, table-loss, table-give, table-pair, content-number, content-word, content-rest, body-number, body-content}
 use Rattle.block.proofs.Checks.{blocks-each, lot-inside}
 use Rattle.block.proofs.Pairs.{is-pair}
 use Rattle.block.proofs.Ties.{tie-before, tie-read}
-use Rattle.block.proofs.Given.{Held, held}
+use Rattle.block.proofs.Given.{Held, held, week-fine}
 use Rattle.block.proofs.RoundTrip.{body-at, check-at}
 
 -- every element of a file is a byte, as the code's are
@@ -168,23 +167,12 @@ module _ (F : List ℕ) (s : Bytes F) (h : Held F) where
       let k = length-list (fileByte W) (blocks n * 512) in
       ext-getD 0 (listOf (fileByte W) (blocks n * 512)) F (k ∙ sym (h .needed)) (λ i l. list-at (fileByte W) (blocks n * 512) i (omega arith) ∙ byte-in i (omega arith))
 
-  week-ok : refusal W ≡ 0
-  unfolding admits weekOf wordsIn tiesIn
-  week-ok =
-      sym (goes-on (numbersOk (numbersIn F)) 1 _ (sym (numbers-good (numbersIn F) (h .limits)))
-      (goes-on (lengthsOk n (wordsIn F n 0) (wordsIn F n 1) (wordsIn F n 2) (tiesIn F n)) 2 _ (sym (lengths-good n (wordsIn F n 0) (wordsIn F n 1) (wordsIn F n 2) (tiesIn F n) sizes))
-      (goes-on (wordsOk n (wordsIn F n 0) (wordsIn F n 1) (wordsIn F n 2)) 3 _ (h .words)
-      (goes-off (tiesOk (pairRules W)) 4 (h .ties)))))
-    where
-      sizes : Lengths n (wordsIn F n 0) (wordsIn F n 1) (wordsIn F n 2) (tiesIn F n)
-      sizes = record { domain = length-list (wordsAt F n 0) n; loss = length-list (wordsAt F n 1) n; give = length-list (wordsAt F n 2) n; ties = length-list (tiesAt F n) (n * n * 16) }
-
 -- writing what was read gives back the bytes, and is not refused
 pub write-back : (F : List ℕ) → Bytes F → fileRefusal F ≡ 0 → fileOf (weekIn F) ≡ F
 write-back F s e = file-is F s (held F e)
 
 pub week-back : (F : List ℕ) → Bytes F → fileRefusal F ≡ 0 → refusal (weekIn F) ≡ 0
-week-back F s e = week-ok F s (held F e)
+week-back F s e = week-fine F e
 
 -- a week has exactly one file
 pub one-file : (W : Week) (F : List ℕ) → Bytes F → fileRefusal F ≡ 0 → weekIn F ≡ W → F ≡ fileOf W

@@ -1,11 +1,10 @@
 -- What a file is put together from: lists by position, numbers in bytes, and pairs of lots by number.
 -- Assumes nothing.
-use mathlib.Core.Bool.{Bool, cond}
+use mathlib.Core.Bool.{cond}
 use mathlib.Core.List.{List, [], _∷_}
 use Prim.Native.Nat.{ℕ, zero, suc, _+_, _*_, _-_, _/_, _%_, _^_}
 use lib.Dec.{ltb}
 use lib.ListN.{getD}
-use Rattle.lex.specs.Every.{oneIf}
 
 -- f 0, f 1 .. f (n - 1)
 unfoldable pub listOf : (ℕ → ℕ) → ℕ → List ℕ
@@ -15,10 +14,6 @@ listOf f (suc n) = f 0 ∷ listOf (λ i. f (suc i)) n
 -- what stands at a place of a list; 0 beyond its end
 unfoldable pub orZero : List ℕ → ℕ → ℕ
 orZero s i = getD s i 0
-
--- a list in a buffer of n places, unused ones 0
-unfoldable pub padded : ℕ → List ℕ → List ℕ
-padded n s = listOf (orZero s) n
 
 -- byte j of a number, little endian
 unfoldable pub byteOf : ℕ → ℕ → ℕ

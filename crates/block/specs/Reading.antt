@@ -6,12 +6,13 @@ use Prim.Native.Nat.{ℕ, zero, suc, _+_, _*_, _-_, _/_, _%_}
 use lib.Dec.{eqb, ltb, leb}
 use lib.ListN.{length, getD, take, drop}
 use Rattle.lex.specs.Every.{all, every}
+use Rattle.lex.specs.Padded.{padded}
 use Rattle.week.specs.declared.Numbers.{Numbers}
 use Rattle.week.specs.Refusal.{unless, orElse}
 use Rattle.week.specs.Rules.{bitOf, inside, wordOf}
 use Rattle.week.specs.Tables.{Week, week, lots, pairRules, numbersOk, wordsOk, tiesOk}
 use Rattle.block.specs.Fnv.{fnv}
-use Rattle.block.specs.Parts.{listOf, padded, byteOf, pairAt, pairNumber}
+use Rattle.block.specs.Parts.{listOf, byteOf, pairAt, pairNumber}
 use Rattle.block.specs.Content.{contentSize}
 use Rattle.block.specs.File.{blocks}
 
@@ -141,7 +142,7 @@ given k N d l g t = record { answer = k; numbers = N; domain = d; loss = l; give
 abbrev pub noNumbers : Numbers
 noNumbers = record { n = 0; a = 0; b = 0; alternative = 0; gap = 0; helper = 0 }
 
--- a week in the lent buffers
+-- a week in the lent buffers, unused words 0
 unfoldable pub givenWeek : Week → Given
 givenWeek W = given 0 (W .numbers) (padded 24 (W .domain)) (padded 24 (W .loss)) (padded 24 (W .give)) (padded 9216 (W .ties))
 

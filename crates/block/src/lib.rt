@@ -6,10 +6,11 @@ ghost use Prim.Native.Nat.{_+_, _*_, _-_, _/_, _%_, _^_, _≤_, _<_};
 ghost use lib.Bits.{bitXor};
 ghost use lib.ListN.{length, take, drop};
 ghost use Rattle.lex.specs.Every.{oneIf};
-ghost use Rattle.week.specs.Rules.{rules, bitOf, inside, wordOf};
+ghost use Rattle.lex.specs.Padded.{padded};
+ghost use Rattle.week.specs.Rules.{rules, bitOf, wordOf};
 ghost use Rattle.week.specs.Tables.{week, numbersOk, lotOkAt, wordsOk, tiesOk};
 ghost use Rattle.block.specs.Fnv.{fnv};
-ghost use Rattle.block.specs.Parts.{listOf, orZero, padded, byteOf, pairAt, pairNumber};
+ghost use Rattle.block.specs.Parts.{listOf, orZero, byteOf, pairAt, pairNumber};
 ghost use Rattle.block.specs.Content.{contentSize, numberAt, tableWord, contentByte};
 ghost use Rattle.block.specs.File.{blocks, bodyByte, body, blockOf, fileOf, written, writeOf};
 ghost use Rattle.block.specs.Reading.{contentIn, wordIn, numbersIn, wordsIn, pairWordIn, pairBitIn, tieIn, tiesIn, weekOf, buffersOk, wholeBlocks, holds4, blockRefusal, blocksRefusal, fillingOk, heldRefusal, fileRefusal, tieHeld, given, noNumbers, readOf};
@@ -36,14 +37,15 @@ fn mul_wrapping(a: u32, b: u32) -> u32
     ((a as u64) * (b as u64) % 4294967296) as u32
 }
 
+// A byte goes into the hash: FNV-1a's exclusive or, before the multiplication.
 fn mix(hash: u32, byte: u8) -> u32
     ensures { λ r. ⌜ r ≡ bitXor hash byte ⌝ }
 {
     hash ^ (byte as u32)
 }
 
-// The 32-bit FNV-1a hash of bytes.
-fn fnv1a(s: &[u8]) -> u32
+// The 32-bit FNV-1a hash of bytes. Public, so that its published vectors can be run.
+pub fn fnv1a(s: &[u8]) -> u32
     ensures { λ r. ⌜ r ≡ fnv (now (s .entry)) ⌝ }
 {
     let mut hash: u32 = 2166136261;
@@ -444,14 +446,6 @@ fn tie_at(file: &[u8], n: u32, i: usize) -> u16
     tie_in(file, n, Lot(p as u8), Slot((i % 16) as u8), Lot(q as u8))
 }
 
-// Refusal 1: whether the numbers are within their limits. Week's judge says 1 of them, whatever tables it is lent.
-fn numbers_ok(numbers: Numbers) -> bool
-    ensures { λ r. ⌜ r ≡ numbersOk numbers ⌝ }
-{
-    let none = [0u16; 1];
-    week::judge(numbers, &none, &none, &none, &none) != 1
-}
-
 // Refusal 2: whether the lent buffers have their lengths.
 fn buffers_ok(domain: usize, loss: usize, give: usize, ties: usize) -> bool
     ensures { λ r. ⌜ r ≡ buffersOk domain loss give ties ⌝ }
@@ -549,22 +543,16 @@ fn filling_ok(file: &[u8], n: u32) -> bool
     true
 }
 
-// Refusal 3, of lot p: its domain is not empty, and holds its loss and give words.
+// Refusal 3, of lot p's words in the file.
 fn lot_held(file: &[u8], n: u32, p: usize) -> bool
     requires { ⌜ n ≤ 24 ⌝ }
     ensures { λ r. ⌜ r ≡ lotOkAt (wordsIn (now (file .entry)) n 0) (wordsIn (now (file .entry)) n 1) (wordsIn (now (file .entry)) n 2) p ⌝ }
 {
-    let domain = lot_word(file, n, 0, p);
-    if domain == 0 {
-        return false;
-    }
-    if !week::within(lot_word(file, n, 1, p), domain) {
-        return false;
-    }
-    if !week::within(lot_word(file, n, 2, p), domain) {
-        return false;
-    }
-    true
+    week::lot_ok(
+        lot_word(file, n, 0, p),
+        lot_word(file, n, 1, p),
+        lot_word(file, n, 2, p),
+    )
 }
 
 // Refusal 3, of every lot.
@@ -583,8 +571,8 @@ fn words_held(file: &[u8], n: u32) -> bool
     true
 }
 
-// The slots that a pair's word for one slot may have: the other lot's domain, and none where the slot is not in the lot's own.
-fn may_have(own: u16, v: Slot, other: u16) -> u16
+// The slots left beside a lot in slot v: the other lot's domain, and none where v is not in the lot's own.
+fn slots_beside(own: u16, v: Slot, other: u16) -> u16
     ensures { λ r. ⌜ r ≡ cond (bitOf own (v .0)) other 0 ⌝ }
 {
     if !week::bit(own, v) {
@@ -602,7 +590,7 @@ fn tie_held(file: &[u8], n: u32, i: usize) -> bool
     let low = word_in(file, pair.low.0 as usize);
     let high = word_in(file, pair.high.0 as usize);
     let word = word_in(file, 3 * (n as usize) + i);
-    week::within(word, may_have(low, Slot((i % 16) as u8), high))
+    week::within(word, slots_beside(low, Slot((i % 16) as u8), high))
 }
 
 // Refusal 4, of every pair's words; the words of (q, p) follow by symmetry, and those of a lot with itself are 0.
@@ -626,7 +614,7 @@ fn ties_held(file: &[u8], n: u32) -> bool
 fn held_refusal(file: &[u8], numbers: Numbers) -> u32
     ensures { λ r. ⌜ r ≡ heldRefusal (weekOf numbers (now (file .entry))) (now (file .entry)) ⌝ }
 {
-    if !numbers_ok(numbers) {
+    if !week::numbers_ok(numbers) {
         return 1;
     }
     let n = numbers.n;

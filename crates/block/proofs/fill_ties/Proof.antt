@@ -1,14 +1,15 @@
 -- `block::fill_ties` meets its contract: the words passed are put.
 -- Assumes nothing.
-use mathlib.Core.Path.{_≡_, refl}
+use mathlib.Core.Path.{_≡_, refl, _∙_}
 use mathlib.Core.List.{_++_}
 use Prim.Native.Nat.{_≤_, _-_}
 use native.Mathlib.Omega.{arith}
 use lib.ListN.{length, drop, length-set}
 use borrow.Author.Needs.{needs}
-use Rattle.block.specs.Parts.{listOf, orZero, padded}
+use Rattle.block.specs.Parts.{listOf, orZero}
 use Rattle.block.specs.Reading.{tiesIn}
 use Rattle.block.proofs.Parts.{store-none, store-more, store-end}
+use Rattle.block.proofs.Ties.{ties-padded}
 use Rattle.block.proofs.fill_ties.Statement.{statement}
 use Rattle.block.proofs.fill_ties.Tie as tie
 
@@ -43,8 +44,7 @@ same-length : tie.Need-same-length Inv-loop μ-loop
 same-length c = search needs
 
 returns : tie.Need-returns Inv-loop μ-loop
-unfolding padded
-returns c = store-end _ _ (c .before .loop .inv .2) (omega arith) (omega arith)
+returns c = store-end _ _ (c .before .loop .inv .2) (omega arith) (omega arith) ∙ ties-padded _ _ (c .before .before .before .before .pre .1)
 
 pub fill-ties-spec : {M : Type 1} → statement M
 fill-ties-spec =

@@ -33,14 +33,14 @@ word-in-requires-3 c κs = search needs
 cast-t12 : tie.Need-cast-t12
 cast-t12 c = search needs
 
-may-have-requires : tie.Need-may-have-requires
-may-have-requires c κs = search needs
+slots-beside-requires : tie.Need-slots-beside-requires
+slots-beside-requires c κs = search needs
 
 within-requires : tie.Need-within-requires
 within-requires c κs = search needs
 
 returns : tie.Need-returns
-returns c = c .within .ensures ∙ tie-held _ _ _ (c .before .before .before .before .before .before .before .pair-at .ensures .0) (c .before .before .before .before .before .before .before .pair-at .ensures .1) (c .before .before .before .before .before .word-in .ensures) (c .before .before .before .word-in2 .ensures) (c .before .before .word-in3 .ensures) (c .before .may-have .ensures)
+returns c = c .within .ensures ∙ tie-held _ _ _ (c .before .before .before .before .before .before .before .pair-at .ensures .0) (c .before .before .before .before .before .before .before .pair-at .ensures .1) (c .before .before .before .before .before .word-in .ensures) (c .before .before .before .word-in2 .ensures) (c .before .before .word-in3 .ensures) (c .before .slots-beside .ensures)
 
 pub tie-held-spec : {M : Type 1} → statement M
 tie-held-spec =
@@ -55,6 +55,6 @@ tie-held-spec =
     add-word-in
     word-in-requires-3
     cast-t12
-    may-have-requires
+    slots-beside-requires
     within-requires
     returns)
