@@ -1,0 +1,5 @@
+pub mod Put
+pub mod Lines
+pub mod Sizes
+pub mod Plan
+pub mod File
