@@ -2,7 +2,7 @@
 -- the first repair, or the order itself; repair and row answer the same.
 -- Assumes nothing.
 use mathlib.Core.Path.{_≡_, refl, sym, _∙_, ap, subst, subst₂}
-use mathlib.Core.Bool.{Bool, true, _&&_, cond, true≢false}
+use mathlib.Core.Bool.{Bool, true, false, _&&_, cond, true≢false}
 use mathlib.Core.Logic.{⊎-elim}
 use mathlib.Core.List.{List, [], _∷_}
 use mathlib.Core.Option.{Option, none, some}
@@ -12,7 +12,7 @@ use lib.Dec.{eqb}
 use lib.ListN.{length}
 use borrow.Author.Tests.{eqb-true, eq-eqb, ne-eqb, le-leb}
 use Rattle.lex.specs.Every.{someOf}
-use Rattle.lex.specs.Dictionary.{Le, Meets}
+use Rattle.lex.specs.Dictionary.{Meets}
 use Rattle.lex.specs.First.{Passes, always, isFound, orOld}
 use Rattle.lex.proofs.Every.{both, and-left, and-right, imp-in, imp-out}
 use Rattle.lex.proofs.Dictionary.{meets-same, under-all, before-not-le, le-before}
@@ -21,33 +21,43 @@ use Rattle.week.specs.Refusal.{unless, orElse}
 use Rattle.week.specs.Rules.{keeps}
 use Rattle.week.specs.Tables.{Week, lots, pairRules, refusal, admits}
 use Rattle.week.proofs.Rules.{keeps-below, keeps-closed}
-use Rattle.week.proofs.Tables.{accepted, zero-first, zero-rest, passed-last, runs-on, admits-tables}
+use Rattle.week.proofs.Tables.{accepted, zero-first, zero-rest, stops-last, goes-off, passed-last, runs-on, admits-tables}
 use Rattle.repair.specs.Break.{lostOk, rowNumber, rowCount, rowAt}
 use Rattle.repair.specs.Repair.{case, mends, isRepair}
 use Rattle.repair.specs.Service.{repairLengths, repairAnswer, repairOut, rowNumbers, rowLengths, rowAnswer, rowPart}
 use Rattle.repair.proofs.Mends.{repair-meets, repair-passes}
 use Rattle.solve.specs.Super.{rowSets, isBreak, repairFor, safe, robust, firstSuper, rowOf, tableOf}
 use Rattle.solve.specs.Service.{solveAnswer, solveOrder, solveTable}
-use Rattle.solve.proofs.Table.{row-size}
+use Rattle.solve.proofs.Table.{row-size, row-at, rows-size}
 use Rattle.demands.specs.Calls.{writeRefusals}
 use Rattle.demands.specs.Plans.{SetOfLots, Repair, Super, FirstOf, RowOf}
+use Rattle.demands.specs.Readings.{Reads}
+use Rattle.demands.proofs.Plain.{reading}
 use Rattle.demands.proofs.Demand1.{link, admitted, passes-over}
-use Rattle.demands.proofs.Sets.{every-set, set-every, set-lost, set-row, row-set, row-at, rows-size}
+use Rattle.demands.proofs.Sets.{every-set, set-every, set-lost, set-row, row-set}
 
--- The first with a property
+-- What a search found, where it meets a property Q: the first list with Q, or none
 
--- what is found is the first
-first-of : (Q : List ℕ → Type 0) (n : ℕ) → ((l : List ℕ) → Q l → length l ≡ n) → (s : List ℕ) → Q s → ((l : List ℕ) → Q l → Le s l) → FirstOf Q s
-first-of Q n size s q h = record { has = q; none = λ l p b. before-not-le l s (size l p ∙ sym (size s q)) b (h l p) }
+module _ (Q : List ℕ → Type 0) where
+  -- one is found exactly if some list has it
+  found-reads : (o : Option (List ℕ)) → Meets Q o → Reads (isFound o) ((s : List ℕ) × Q s) ((s : List ℕ) → Q s → ⊥)
+  found-reads none m = reading false (λ e. absurd (true≢false (sym e))) (λ e. m) (λ p n. n (p .0) (p .1))
+  found-reads (some s) m = reading true (λ e. (s, m .0)) (λ e. absurd (true≢false e)) (λ p n. n (p .0) (p .1))
 
--- and what is the first is found
-first-found : (Q : List ℕ → Type 0) (n : ℕ) → ((l : List ℕ) → Q l → length l ≡ n) → (s : List ℕ) → FirstOf Q s → (o : Option (List ℕ)) → Meets Q o → o ≡ some s
-first-found Q n size s f none m = absurd (m s (f .has))
-first-found Q n size s f (some t) m =
-    ⊎-elim
-    (λ e. ap some e)
-    (λ b. absurd (f .none t (m .0) b))
-    (le-before t s (size t (m .0) ∙ sym (size s (f .has))) (m .1 s (f .has)))
+  module _ (n : ℕ) (size : (l : List ℕ) → Q l → length l ≡ n) where
+    -- what is found is the first
+    found-first : (o : Option (List ℕ)) → Meets Q o → isFound o ≡ true → (old : List ℕ) → FirstOf Q (orOld o old)
+    found-first none m f old = absurd (true≢false (sym f))
+    found-first (some s) m f old = record { has = m .0; none = λ l q b. before-not-le l s (size l q ∙ sym (size s (m .0))) b (m .1 l q) }
+
+    -- and the first is what is found
+    first-found : (o : Option (List ℕ)) → Meets Q o → (s : List ℕ) → FirstOf Q s → o ≡ some s
+    first-found none m s f = absurd (m s (f .has))
+    first-found (some t) m s f =
+        ⊎-elim
+        (λ e. ap some e)
+        (λ b. absurd (f .none t (m .0) b))
+        (le-before t s (size t (m .0) ∙ sym (size s (f .has))) (m .1 s (f .has)))
 
 -- Repairs
 
@@ -65,13 +75,13 @@ module _ (W : Week) (s A : List ℕ) where
       (λ r e. repair-passes (pairRules W) (case (W .numbers) (W .give) s A) r (repair-size r e) (and-right (eqb (length r) (lots W)) (mends (pairRules W) (case (W .numbers) (W .give) s A) r) e))
       (repairFor W s A) (repair-meets (pairRules W) (case (W .numbers) (W .give) s A))
 
+  -- 8 in plain words: one is found exactly if there is one
+  pub repair-found : Reads (isFound (repairFor W s A)) ((r : List ℕ) × Repair W s A r) ((r : List ℕ) → Repair W s A r → ⊥)
+  repair-found = found-reads (Repair W s A) (repairFor W s A) repairs-meet
+
   -- where there is one, the one chosen is the first
   chosen : (r : List ℕ) → Repair W s A r → FirstOf (Repair W s A) (orOld (repairFor W s A) s)
-  chosen r e = go (repairFor W s A) repairs-meet
-    where
-      go : (o : Option (List ℕ)) → Meets (Repair W s A) o → FirstOf (Repair W s A) (orOld o s)
-      go none m = absurd (m r e)
-      go (some t) m = first-of (Repair W s A) (lots W) repair-size t (m .0) (m .1)
+  chosen r e = found-first (Repair W s A) (lots W) repair-size (repairFor W s A) repairs-meet (repair-found .passes .1 (r, e)) s
 
   -- the row of a set
   pub row-right : Super W s → SetOfLots (lots W) (W .numbers .a) A → RowOf W s A (rowOf W s A)
@@ -89,19 +99,11 @@ module _ (W : Week) (fine : refusal W ≡ 0) where
 
   repaired : (s A : List ℕ) → safe W s A ≡ true → isBreak W s A ≡ true → (r : List ℕ) × Repair W s A r
   unfolding safe
-  repaired s A e b = go (repairFor W s A) (repairs-meet W s A) (imp-out (isBreak W s A) (isFound (repairFor W s A)) e b)
-    where
-      go : (o : Option (List ℕ)) → Meets (Repair W s A) o → isFound o ≡ true → (r : List ℕ) × Repair W s A r
-      go none m f = absurd (true≢false (sym f))
-      go (some r) m f = (r, m .0)
+  repaired s A e b = repair-found W s A .passes .0 (imp-out (isBreak W s A) (isFound (repairFor W s A)) e b)
 
   is-safe : (s A : List ℕ) → (isBreak W s A ≡ true → (r : List ℕ) × Repair W s A r) → safe W s A ≡ true
   unfolding safe
-  is-safe s A h = imp-in (isBreak W s A) (isFound (repairFor W s A)) (λ b. go (h b) (repairFor W s A) (repairs-meet W s A))
-    where
-      go : (r : List ℕ) × Repair W s A r → (o : Option (List ℕ)) → Meets (Repair W s A) o → isFound o ≡ true
-      go r none m = absurd (m (r .0) (r .1))
-      go r (some t) m = refl
+  is-safe s A h = imp-in (isBreak W s A) (isFound (repairFor W s A)) (λ b. repair-found W s A .passes .1 (h b))
 
   -- the first super solution is found, and none only where there is none
   pub super-meets : Meets (Super W) (firstSuper W)
@@ -112,13 +114,17 @@ module _ (W : Week) (fine : refusal W ≡ 0) where
       (λ s q. record { len = q .size; under = under-all s (keeps-below (pairRules W) s (q .rules)); good = q .rules; final = set-every (safe W s) (lots W) (W .numbers .a) two (λ A set. is-safe s A (q .repaired A set)) })
       (firstSuper W) (first-meets (keeps (pairRules W)) (robust W) 16 (keeps-closed (pairRules W)) (lots W))
 
+  -- 5 in plain words: one is found exactly if there is one
+  pub super-found : Reads (isFound (firstSuper W)) ((s : List ℕ) × Super W s) ((s : List ℕ) → Super W s → ⊥)
+  super-found = found-reads (Super W) (firstSuper W) super-meets
+
 -- Solve
 
 module _ (W : Week) (order table : List ℕ) where
   abbrev own : Bool
   own = rowLengths (lots W) (W .numbers .a) order table
 
-  solve-admits : solveAnswer W order table ≡ 0 → admits true own W ≡ 0
+  pub solve-admits : solveAnswer W order table ≡ 0 → admits true own W ≡ 0
   unfolding solveAnswer
   solve-admits e = zero-first (admits true own W) (unless (isFound (firstSuper W)) 5) e
 
@@ -128,36 +134,24 @@ module _ (W : Week) (order table : List ℕ) where
   solve-first e =
       let is : isFound (firstSuper W) ≡ true = passed-last (isFound (firstSuper W)) 5 (λ z. omega arith) (zero-rest (admits true own W) (unless (isFound (firstSuper W)) 5) e) in
       subst (FirstOf (Super W)) (sym (ap (λ (t : Bool). cond t (orOld (firstSuper W) order) order) (eq-eqb (solveAnswer W order table) 0 e)))
-      (go (firstSuper W) (super-meets W (admits-tables true own W (solve-admits e))) is)
-    where
-      go : (o : Option (List ℕ)) → Meets (Super W) o → isFound o ≡ true → FirstOf (Super W) (orOld o order)
-      go none m f = absurd (true≢false (sym f))
-      go (some s) m f = first-of (Super W) (lots W) (λ l q. q .size) s (m .0) (m .1)
+      (found-first (Super W) (lots W) (λ l q. q .size) (firstSuper W) (super-meets W (admits-tables true own W (solve-admits e))) is order)
 
   -- solve answers 5 exactly if numbers, tables and buffers are not refused and there is no super solution
   pub solve-none : solveAnswer W order table ≡ 5 → (admits true own W ≡ 0) × ((s : List ℕ) → Super W s → ⊥)
   unfolding solveAnswer someOf writeRefusals
   solve-none e =
       let p = passes-over writeRefusals (admits true own W) (unless (isFound (firstSuper W)) 5) 5 (admitted writeRefusals true own W refl refl refl refl) (λ h. true≢false (sym (h .is))) e in
-      (p .0, nothing (firstSuper W) (super-meets W (admits-tables true own W (p .0))) (p .1))
-    where
-      nothing : (o : Option (List ℕ)) → Meets (Super W) o → unless (isFound o) 5 ≡ 5 → (s : List ℕ) → Super W s → ⊥
-      nothing none m f = m
-      nothing (some s) m f = absurd (omega arith)
+      (p .0, λ s q. let z = goes-off (isFound (firstSuper W)) 5 (super-found W (admits-tables true own W (p .0)) .passes .1 (s, q)) ∙ p .1 in omega arith)
 
   pub none-solved : admits true own W ≡ 0 → ((s : List ℕ) → Super W s → ⊥) → solveAnswer W order table ≡ 5
   unfolding solveAnswer
-  none-solved x h = sym (runs-on (admits true own W) (unless (isFound (firstSuper W)) 5) x (go (firstSuper W) (super-meets W (admits-tables true own W x))))
-    where
-      go : (o : Option (List ℕ)) → Meets (Super W) o → 5 ≡ unless (isFound o) 5
-      go none m = refl
-      go (some s) m = absurd (h s (m .0))
+  none-solved x h = sym (runs-on (admits true own W) (unless (isFound (firstSuper W)) 5) x (stops-last (isFound (firstSuper W)) 5 (super-found W (admits-tables true own W x) .fails .1 h)))
 
   -- and 0, with that order, if there is a first super solution
   pub first-solved : admits true own W ≡ 0 → (s : List ℕ) → FirstOf (Super W) s → (solveAnswer W order table ≡ 0) × (solveOrder W order table ≡ s)
   unfolding solveAnswer solveOrder
   first-solved x s f =
-      let is : firstSuper W ≡ some s = first-found (Super W) (lots W) (λ l q. q .size) s f (firstSuper W) (super-meets W (admits-tables true own W x)) in
+      let is : firstSuper W ≡ some s = first-found (Super W) (lots W) (λ l q. q .size) (firstSuper W) (super-meets W (admits-tables true own W x)) s f in
       let e : solveAnswer W order table ≡ 0 = sym (runs-on (admits true own W) (unless (isFound (firstSuper W)) 5) x (sym (ap (λ (o : Option (List ℕ)). unless (isFound o) 5) is))) in
       (e, ap (λ (t : Bool). cond t (orOld (firstSuper W) order) order) (eq-eqb (solveAnswer W order table) 0 e) ∙ ap (λ (o : Option (List ℕ)). orOld o order) is)
 
@@ -167,6 +161,12 @@ module _ (W : Week) (order table : List ℕ) where
   solve-table e =
       let z = eq-eqb (solveAnswer W order table) 0 e in
       ap (λ (t : Bool). cond t (tableOf W (orOld (firstSuper W) order)) table) z ∙ sym (ap (λ (t : Bool). tableOf W (cond t (orOld (firstSuper W) order) order)) z)
+
+  pub solve-long : solveAnswer W order table ≡ 0 → length (solveTable W order table) ≡ rowCount (lots W) (W .numbers .a) * lots W
+  unfolding tableOf rowCount
+  solve-long e =
+      let s = solveOrder W order table in
+      ap length (solve-table e) ∙ rows-size (rowOf W s) (lots W) (λ B. row-size W s B (admits-tables true own W (solve-admits e)) (solve-first e .has .size)) (rowSets W)
 
   -- and the row of every set of lots is right
   pub solve-rows : solveAnswer W order table ≡ 0 → (A : List ℕ) → SetOfLots (lots W) (W .numbers .a) A → RowOf W (solveOrder W order table) A (rowAt (lots W) (solveTable W order table) (rowNumber (lots W) A))
@@ -201,11 +201,7 @@ module _ (W : Week) (s A out : List ℕ) where
       let rest = zero-rest (admits lost lent W) (orElse (unless (keeps (pairRules W) s) 6) (unless chosenIs 8)) e in
       let is : chosenIs ≡ true = passed-last chosenIs 8 (λ z. omega arith) (zero-rest (unless (keeps (pairRules W) s) 6) (unless chosenIs 8) rest) in
       subst (FirstOf (Repair W s A)) (sym (ap (λ (t : Bool). cond t (orOld (repairFor W s A) out) out) (eq-eqb (repairAnswer W s A out) 0 e)))
-      (go (repairFor W s A) (repairs-meet W s A) is)
-    where
-      go : (o : Option (List ℕ)) → Meets (Repair W s A) o → isFound o ≡ true → FirstOf (Repair W s A) (orOld o out)
-      go none m f = absurd (true≢false (sym f))
-      go (some r) m f = first-of (Repair W s A) (lots W) (repair-size W s A) r (m .0) (m .1)
+      (found-first (Repair W s A) (lots W) (repair-size W s A) (repairFor W s A) (repairs-meet W s A) is out)
 
   -- repair answers 8 only if there is no repair
   pub repair-none : repairAnswer W s A out ≡ 8 → (r : List ℕ) → Repair W s A r → ⊥
@@ -213,17 +209,13 @@ module _ (W : Week) (s A out : List ℕ) where
   repair-none e =
       let p = passes-over writeRefusals (admits lost lent W) (orElse (unless (keeps (pairRules W) s) 6) (unless chosenIs 8)) 8 (admitted writeRefusals lost lent W refl refl refl refl) (λ h. true≢false (sym (h .is))) e in
       let q = passes-over (6 ∷ []) (unless (keeps (pairRules W) s) 6) (unless chosenIs 8) 8 (link (6 ∷ []) (keeps (pairRules W) s) 6 refl) (λ h. true≢false (sym (h .is))) (p .1) in
-      nothing (repairFor W s A) (repairs-meet W s A) (q .1)
-    where
-      nothing : (o : Option (List ℕ)) → Meets (Repair W s A) o → unless (isFound o) 8 ≡ 8 → (r : List ℕ) → Repair W s A r → ⊥
-      nothing none m f = m
-      nothing (some t) m f = absurd (omega arith)
+      λ r f. let z = goes-off chosenIs 8 (repair-found W s A .passes .1 (r, f)) ∙ q .1 in omega arith
 
   -- and 0 if there is a first one
   pub first-repaired : admits lost lent W ≡ 0 → keeps (pairRules W) s ≡ true → (r : List ℕ) → FirstOf (Repair W s A) r → (repairAnswer W s A out ≡ 0) × (repairOut W s A out ≡ r)
   unfolding repairAnswer repairOut repairFor
   first-repaired x k r f =
-      let is : repairFor W s A ≡ some r = first-found (Repair W s A) (lots W) (repair-size W s A) r f (repairFor W s A) (repairs-meet W s A) in
+      let is : repairFor W s A ≡ some r = first-found (Repair W s A) (lots W) (repair-size W s A) (repairFor W s A) (repairs-meet W s A) r f in
       let e : repairAnswer W s A out ≡ 0 =
       sym (runs-on (admits lost lent W) (orElse (unless (keeps (pairRules W) s) 6) (unless chosenIs 8)) x
       (runs-on (unless (keeps (pairRules W) s) 6) (unless chosenIs 8) (ap (λ (t : Bool). unless t 6) k) (sym (ap (λ (o : Option (List ℕ)). unless (isFound o) 8) is)))) in
@@ -250,10 +242,6 @@ module _ (W : Week) (order table : List ℕ) (e : solveAnswer W order table ≡ 
   at-most : W .numbers .a ≤ 2
   at-most = accepted W fine .limits .breaks
 
-  long : length written ≡ rowCount (lots W) (W .numbers .a) * lots W
-  unfolding tableOf rowCount
-  long = ap length (solve-table W order table e) ∙ rows-size (rowOf W found) (lots W) (λ B. row-size W found B fine (super .size)) (rowSets W)
-
   row-taken : rowAnswer (lots W) (W .numbers .a) found written A ≡ 0
   unfolding rowAnswer rowNumbers rowLengths
   row-taken =
@@ -261,7 +249,7 @@ module _ (W : Week) (order table : List ℕ) (e : solveAnswer W order table ≡ 
       let few = accepted W fine .limits .few in
       sym (runs-on (unless (rowNumbers (lots W) (W .numbers .a) && lostOk (lots W) 0 (W .numbers .a) A) 1) (unless (rowLengths (lots W) (W .numbers .a) found written) 2)
       (ap (λ (t : Bool). unless t 1) (both (both (le-leb 1 (lots W) some) (both (le-leb (lots W) 24 few) (le-leb (W .numbers .a) 2 at-most))) (set-lost (lots W) (W .numbers .a) at-most A set 0 (W .numbers .a) (omega arith) (omega arith))))
-      (sym (ap (λ (t : Bool). unless t 2) (both (eq-eqb (length found) (lots W) (super .size)) (eq-eqb (length written) (rowCount (lots W) (W .numbers .a) * lots W) long)))))
+      (sym (ap (λ (t : Bool). unless t 2) (both (eq-eqb (length found) (lots W) (super .size)) (eq-eqb (length written) (rowCount (lots W) (W .numbers .a) * lots W) (solve-long W order table e))))))
 
   -- row shows the row of the set: the first repair, if it is a break
   pub row-shows : rowPart (lots W) (W .numbers .a) found written A ≡ its

@@ -1,24 +1,23 @@
 -- All sets of 1 to a lots, by the rows that stand for them: a test of each row's set is a test of every set, and each set has its row.
 -- Assumes nothing.
-use mathlib.Core.Path.{_≡_, refl, sym, _∙_, ap, ap₂}
+use mathlib.Core.Path.{_≡_, refl, sym, _∙_, ap}
 use mathlib.Core.Bool.{Bool, true, false, _&&_, cond, true≢false}
 use mathlib.Core.Logic.{⊎-elim}
-use mathlib.Core.List.{List, [], _∷_, _++_, map, flatMap}
-use Prim.Native.Nat.{ℕ, zero, suc, _+_, _-_, _*_, _≤_, _<_}
+use mathlib.Core.List.{List, [], _∷_, map, flatMap}
+use Prim.Native.Nat.{ℕ, zero, suc, _+_, _-_, _≤_, _<_}
 use native.Mathlib.Omega.{arith}
-use native.Mathlib.Nat.{eq-or-lt-of-le, zero-mul, suc-mul}
+use native.Mathlib.Nat.{eq-or-lt-of-le}
 use lib.Dec.{eqb}
-use lib.ListN.{length, getD, take, drop, length-append}
-use lib.Seq.{take-at, drop-append-add}
-use borrow.Author.Tests.{eqb-true, eq-eqb, lt-ltb}
-use Rattle.lex.specs.Every.{every, everyOf}
-use Rattle.lex.proofs.Every.{both, and-left, and-right, every-true, everyOf-append}
-use Rattle.repair.specs.Break.{lotsFrom, single, pair, singles, pairsOf, pairs, lostSets, lotBelow, lotAscends, lostOk, sameSet, place, rowNumber, rowCount, rowAt}
-use Rattle.repair.proofs.Break.{lost-good}
+use lib.ListN.{length, getD}
+use borrow.Author.Tests.{eqb-true}
+use Rattle.lex.specs.Every.{every, everyOf, same}
+use Rattle.lex.proofs.Every.{both, and-left, and-right, every-true, every-at, everyOf-append, same-eq, same-self}
+use Rattle.repair.specs.Break.{lotsFrom, single, pair, singles, pairsOf, pairs, lostSets, lostOk, place, rowNumber, rowCount}
 use Rattle.repair.proofs.Rows.{row-below}
-use Rattle.solve.proofs.Rows.{every-row, set-fewer}
+use Rattle.solve.proofs.Rows.{every-row, set-fewer, count-most}
 use Rattle.solve.proofs.Super.{sets-read, sets-make}
 use Rattle.demands.specs.Plans.{SetOfLots}
+use Rattle.demands.proofs.Readings.{lost-reads}
 
 -- A test of every set of lots is the test of each row's set
 
@@ -100,18 +99,6 @@ module _ (f : List ℕ → Bool) (n : ℕ) where
 
 -- Each set has its row
 
-same-sets : (A B : List ℕ) → sameSet A B ≡ true → A ≡ B
-unfolding sameSet
-same-sets [] [] e = refl
-same-sets [] (q ∷ B) e = absurd (true≢false (sym e))
-same-sets (p ∷ A) [] e = absurd (true≢false (sym e))
-same-sets (p ∷ A) (q ∷ B) e = ap₂ (λ (x : ℕ) (l : List ℕ). x ∷ l) (eqb-true p q (and-left (eqb p q) (sameSet A B) e)) (same-sets A B (and-right (eqb p q) (sameSet A B) e))
-
-same-self : (A : List ℕ) → sameSet A A ≡ true
-unfolding sameSet
-same-self [] = refl
-same-self (p ∷ A) = both (eq-eqb p p refl) (same-self A)
-
 -- the place of the first that passes holds one that passes
 place-passes : (f : List ℕ → Bool) (l : List (List ℕ)) (i : ℕ) → i < length l → f (getD l i []) ≡ true → f (getD l (place f l) []) ≡ true
 unfolding place
@@ -126,26 +113,19 @@ place-passes f (A ∷ l) i h e = go (λ j. place-passes f l j) (f A) refl i h e
 module _ (n : ℕ) where
   -- the row of a set holds it
   abbrev hits : List ℕ → Bool
-  hits A = sameSet A (getD (lostSets n 2) (rowNumber n A) [])
+  hits A = same A (getD (lostSets n 2) (rowNumber n A) [])
 
   hits-all : everyOf hits (lostSets n 2) ≡ true
   unfolding rowNumber
   hits-all =
       every-row hits (lostSets n 2)
       ∙ every-true (λ i. hits (getD (lostSets n 2) i [])) (length (lostSets n 2))
-      (λ i h. place-passes (sameSet (getD (lostSets n 2) i [])) (lostSets n 2) i h (same-self (getD (lostSets n 2) i [])))
+      (λ i h. place-passes (same (getD (lostSets n 2) i [])) (lostSets n 2) i h (same-self (getD (lostSets n 2) i [])))
 
   module _ (a : ℕ) (two : a ≤ 2) (A : List ℕ) (set : SetOfLots n a A) where
     -- it passes the tests of lost lots
     pub set-lost : (least most : ℕ) → least ≤ 1 → a ≤ most → lostOk n least most A ≡ true
-    unfolding lotBelow lotAscends
-    set-lost least most l m =
-        sym (lost-good n least most A (record {
-          some = let x = set .some in omega arith;
-          few = let x = set .few in omega arith;
-          below = every-true (lotBelow n A) (length A) (λ i h. lt-ltb (getD A i 0) n (set .below i h));
-          ascends = every-true (lotAscends A) (length A - 1) (λ i h. lt-ltb (getD A i 0) (getD A (i + 1) 0) (set .ascends i (omega arith)));
-        }))
+    set-lost least most l m = lost-reads n least most A .passes .1 ((let x = set .some in omega arith), (let x = set .few in omega arith, (set .below, λ i h. set .ascends i (omega arith))))
 
     pub set-row : n ≤ 24 → rowNumber n A < rowCount n a
     set-row few = row-below n a few two A (set .some) (set-lost 0 a (omega arith) (omega arith))
@@ -153,20 +133,32 @@ module _ (n : ℕ) where
     pub row-set : n ≤ 24 → getD (lostSets n a) (rowNumber n A) [] ≡ A
     row-set few =
         set-fewer n a (rowNumber n A) two (set-row few)
-        ∙ sym (same-sets A (getD (lostSets n 2) (rowNumber n A) []) (every-set hits n 2 (omega arith) hits-all A (record { some = set .some; few = let l = set .few in omega arith; below = set .below; ascends = set .ascends })))
+        ∙ sym (same-eq A (getD (lostSets n 2) (rowNumber n A) []) (every-set hits n 2 (omega arith) hits-all A (record { some = set .some; few = let l = set .few in omega arith; below = set .below; ascends = set .ascends })))
 
--- row i of rows of n bytes, one behind the other
-pub row-at : (f : List ℕ → List ℕ) (n : ℕ) → ((A : List ℕ) → length (f A) ≡ n) → (l : List (List ℕ)) (i : ℕ) → i < length l → rowAt n (flatMap f l) i ≡ f (getD l i [])
-unfolding rowAt flatMap
-row-at f n size [] i h = absurd (omega arith)
-row-at f n size (A ∷ l) zero h = ap (λ (m : ℕ). take n (drop m (f A ++ flatMap f l))) (zero-mul n) ∙ take-at (f A) (flatMap f l) n (size A)
-row-at f n size (A ∷ l) (suc i) h =
-    let e : suc i * n ≡ length (f A) + i * n = let z = size A in let m = suc-mul i n in omega arith in
-    ap (take n) (ap (λ (m : ℕ). drop m (f A ++ flatMap f l)) e ∙ drop-append-add (f A) (flatMap f l) (i * n))
-    ∙ row-at f n size l i (omega arith)
+-- and each row its set: the number of a row's set, checked by computation for every number of lots that a week may have
 
-pub rows-size : (f : List ℕ → List ℕ) (n : ℕ) → ((A : List ℕ) → length (f A) ≡ n) → (l : List (List ℕ)) → length (flatMap f l) ≡ length l * n
-unfolding flatMap
-rows-size f n size [] = sym (zero-mul n)
-rows-size f n size (A ∷ l) =
-    let m = suc-mul (length l) n in let z = size A in let r = rows-size f n size l in let e = length-append (f A) (flatMap f l) in omega arith
+rowWell : ℕ → ℕ → Bool
+rowWell n i = eqb (rowNumber n (getD (lostSets n 2) i [])) i
+
+rowsWell : ℕ → Bool
+rowsWell n = every (rowWell n) (rowCount n 2)
+
+renumbered : every rowsWell 25 ≡ true
+unfolding every flatMap lotsFrom single pair singles pairsOf pairs lostSets same place rowNumber rowCount rowWell rowsWell
+renumbered = refl
+
+number-row : (n : ℕ) → n ≤ 24 → (i : ℕ) → i < rowCount n 2 → rowNumber n (getD (lostSets n 2) i []) ≡ i
+unfolding rowWell rowsWell
+number-row n few i h = eqb-true (rowNumber n (getD (lostSets n 2) i [])) i (every-at (rowWell n) (rowCount n 2) i (every-at rowsWell 25 n renumbered (omega arith)) h)
+
+module _ (n a i : ℕ) (two : a ≤ 2) (row : i < rowCount n a) where
+  pub set-of : SetOfLots n a (getD (lostSets n a) i [])
+  unfolding rowCount
+  set-of =
+      let all = set-every (lostOk n 1 a) n a two (λ A set. set-lost n a two A set 1 a (omega arith) (omega arith)) in
+      let ok = every-at (λ j. lostOk n 1 a (getD (lostSets n a) j [])) (length (lostSets n a)) i (sym (every-row (lostOk n 1 a) (lostSets n a)) ∙ all) row in
+      let r = lost-reads n 1 a (getD (lostSets n a) i []) .passes .0 ok in
+      record { some = r .0; few = r .1 .0; below = r .1 .1 .0; ascends = λ j h. r .1 .1 .1 j (omega arith) }
+
+  pub number-of : n ≤ 24 → rowNumber n (getD (lostSets n a) i []) ≡ i
+  number-of few = ap (rowNumber n) (set-fewer n a i two row) ∙ number-row n few i (let m = count-most n a two in omega arith)

@@ -19,6 +19,9 @@ pub record Answered (l : List ℕ) (k : ℕ) {A : Type 0} (refused given : A) : 
 unfoldable pub solveRefusals : List ℕ
 solveRefusals = 1 ∷ 2 ∷ 3 ∷ 4 ∷ 5 ∷ []
 
+unfoldable pub checkRefusals : List ℕ
+checkRefusals = 1 ∷ 2 ∷ 3 ∷ 4 ∷ 6 ∷ 7 ∷ []
+
 unfoldable pub repairRefusals : List ℕ
 repairRefusals = 1 ∷ 2 ∷ 3 ∷ 4 ∷ 6 ∷ 8 ∷ []
 

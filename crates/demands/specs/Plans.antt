@@ -8,6 +8,7 @@ use lib.ListN.{length, getD}
 use Rattle.lex.specs.Dictionary.{Before}
 use Rattle.week.specs.Rules.{keeps}
 use Rattle.week.specs.Tables.{Week, lots, pairRules}
+use Rattle.repair.specs.Break.{rowNumber, rowAt}
 use Rattle.repair.specs.Repair.{case, isRepair}
 use Rattle.solve.specs.Super.{isBreak}
 
@@ -37,3 +38,25 @@ pub record FirstOf (Q : List ℕ → Type 0) (s : List ℕ) : Type 0 where
 pub record RowOf (W : Week) (s A r : List ℕ) : Type 0 where
   pub broken : isBreak W s A ≡ true → FirstOf (Repair W s A) r
   pub whole : isBreak W s A ≡ false → r ≡ s
+
+-- row r of set A in a table of order s from any maker: some repair of a break, and s itself where A is none
+pub record RightRow (W : Week) (s A r : List ℕ) : Type 0 where
+  pub broken : isBreak W s A ≡ true → Repair W s A r
+  pub whole : isBreak W s A ≡ false → r ≡ s
+
+-- the row that stands for set A
+abbrev pub rowFor : Week → List ℕ → List ℕ → List ℕ
+rowFor W table A = rowAt (lots W) table (rowNumber (lots W) A)
+
+-- order s is a super solution, and the row of every set of 1 to a lots is right
+pub record Robust (W : Week) (s table : List ℕ) : Type 0 where
+  pub super : Super W s
+  pub rows : (A : List ℕ) → SetOfLots (lots W) (W .numbers .a) A → RightRow W s A (rowFor W table A)
+
+-- row i is the first that is wrong: the row of some set, and the rows of all sets before it are right
+pub record FirstWrong (W : Week) (s table : List ℕ) (i : ℕ) : Type 0 where
+  pub set : List ℕ
+  pub is : SetOfLots (lots W) (W .numbers .a) set
+  pub number : rowNumber (lots W) set ≡ i
+  pub wrong : RightRow W s set (rowFor W table set) → ⊥
+  pub before : (A : List ℕ) → SetOfLots (lots W) (W .numbers .a) A → rowNumber (lots W) A < i → RightRow W s A (rowFor W table A)
