@@ -1,8 +1,11 @@
-# make test  proves every crate, tries every must-fail edit and runs every test
-# make plan  prints the plan of a sample week (once the printing program exists)
+# make test            proves every crate, tries every must-fail edit and runs every test
+# make plan            prints the plan of a sample week
+# make plan WEEK=path  prints the plan of another
 .PHONY: test plan
+WEEK ?= weeks/f_10.blk
+
 test:
 	@tests/run
 
 plan:
-	@echo "make plan: the printing program is not built yet; see README.md, 'What stands'" >&2; exit 1
+	@bin/plan "$(WEEK)"
