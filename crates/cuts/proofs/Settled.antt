@@ -1,0 +1,154 @@
+-- Partial repairs by forced moves: where no lot is left that has to move, the test `may` is enough. So the search of `parts` with this test, which takes next
+-- any lot that has to move, decides whether there is a partial repair. Assumes nothing.
+use mathlib.Core.Path.{_≡_, refl, sym, _∙_, ap}
+use mathlib.Core.Bool.{Bool, true, false, _&&_, cond}
+use mathlib.Core.List.{List, [], _∷_, _++_}
+use Prim.Native.Nat.{ℕ, zero, suc, _≤_, _<_}
+use native.Mathlib.Decide.{decLt}
+use native.Mathlib.Omega.{arith}
+use lib.ListN.{length, getD, set}
+use lib.Seq.{getD-at}
+use borrow.Author.Tests.{lt-ltb, le-ltb}
+use Rattle.lex.proofs.Dictionary.{under-all}
+use Rattle.lex.proofs.Every.{both, and-left, and-right, false-of, not-both, same-truth, length-snoc, snoc-before}
+use Rattle.week.specs.Rules.{Rules, together}
+use Rattle.week.proofs.Rules.{Symmetric, domain-below}
+use Rattle.repair.specs.Repair.{Case, isLost, moves}
+use Rattle.parts.specs.Part.{placed, Empty, Decides}
+use Rattle.parts.proofs.Turn.{Turn, turn-none}
+use Rattle.cuts.specs.Cut.{RepairsOn, mendedOn}
+use Rattle.cuts.specs.Hopes.{suitsOn}
+use Rattle.cuts.specs.Moves.{calm, uses, may, Settled}
+use Rattle.cuts.proofs.Cut.{KeepsOn, keepsOn-make, count-fewer, MendsOn, mendsOn-make, mended-read, mended-make}
+use Rattle.cuts.proofs.Hopes.{suits-read}
+use Rattle.cuts.proofs.Moves.{stays, still, sound-decided, uses-decided, at-rest, Lands, lands-read, sound-at, few-uses, may-needed}
+
+-- the list of f 0, f 1 and so on, n numbers
+listOf : (ℕ → ℕ) → ℕ → List ℕ
+listOf f zero = []
+listOf f (suc n) = listOf f n ++ f n ∷ []
+
+length-listOf : (f : ℕ → ℕ) (n : ℕ) → length (listOf f n) ≡ n
+unfolding listOf
+length-listOf f zero = refl
+length-listOf f (suc n) = length-snoc (listOf f n) (f n) ∙ ap suc (length-listOf f n)
+
+listOf-at : (f : ℕ → ℕ) (n i : ℕ) → i < n → getD (listOf f n) i 0 ≡ f i
+unfolding listOf
+listOf-at f zero i h = absurd (omega arith)
+listOf-at f (suc n) i h = elim (decLt i n) [
+  | yes g ↦ snoc-before (listOf f n) (f n) i (rw length-listOf g) ∙ listOf-at f n i g
+  | no g ↦ let e : i ≡ n = omega arith in rw e (getD-at (listOf f n) (f n) [] 0 n (length-listOf f n))
+]
+
+-- where lot p goes; 0 where it is not on
+unfoldable to : Case → List ℕ → ℕ → ℕ
+to C m p = cond (placed 16 m p) (getD m p 0) (cond (placed 16 (C .stands) p) (getD (C .stands) p 0) 0)
+
+module _ (C : Case) (m : List ℕ) (p : ℕ) where
+  to-decided : getD m p 0 < 16 → to C m p ≡ getD m p 0
+  unfolding to
+  to-decided h = rw (lt-ltb (getD m p 0) 16 h)
+
+  to-rest : 16 ≤ getD m p 0 → getD (C .stands) p 0 < 16 → to C m p ≡ getD (C .stands) p 0
+  unfolding to
+  to-rest h g = rw (le-ltb (getD m p 0) 16 h, lt-ltb (getD (C .stands) p 0) 16 g)
+
+  to-under : to C m p < 16
+  unfolding to
+  to-under = elim (decLt (getD m p 0) 16) [
+    | yes h ↦ rw (lt-ltb (getD m p 0) 16 h) h
+    | no h ↦ rw (le-ltb (getD m p 0) 16 (omega arith)) (elim (decLt (getD (C .stands) p 0) 16) [
+      | yes g ↦ rw (lt-ltb (getD (C .stands) p 0) 16 g) g
+      | no g ↦ rw (le-ltb (getD (C .stands) p 0) 16 (omega arith)) (omega arith)
+    ])
+  ]
+
+-- what is known of where lot p goes
+record Goes (R : Rules) (C : Case) (on : ℕ → Bool) (m : List ℕ) (p v : ℕ) : Type 0 where
+  fit : Lands R C on m p v
+  counted : moves C p v ≡ true → uses R C on m p ≡ true
+
+module _ (R : Rules) (C : Case) (on : ℕ → Bool) (mirror : Symmetric R) (stand : KeepsOn R on (R .lots) (C .stands)) (m : List ℕ) (e : may R C on m ≡ true) (settled : Settled R C on m) where
+  stood-under : (p : ℕ) → p < R .lots → on p ≡ true → getD (C .stands) p 0 < 16
+  stood-under p l o = domain-below R p (getD (C .stands) p 0) (stand .domain p l o)
+
+  -- a decided lot goes, and any other stays
+  goes : (p : ℕ) → p < R .lots → on p ≡ true → Goes R C on m p (to C m p)
+  unfolding calm
+  goes p l o = elim (decLt (getD m p 0) 16) [
+    | yes h ↦ rw (to-decided C m p h) (record { fit = lands-read R C on m p (getD m p 0) (sym (sound-decided R C on m p h) ∙ sound-at R C on m e p l o); counted = λ t. uses-decided R C on m p h ∙ t })
+    | no h ↦ rw (to-rest C m p (omega arith) (stood-under p l o)) (rest (at-rest R C on m p (omega arith) (settled p l o)))
+  ]
+    where
+      rest : (isLost (C .lost) p ≡ false) × (suitsOn R on m p (getD (C .stands) p 0) ≡ true) → Goes R C on m p (getD (C .stands) p 0)
+      rest a = record { fit = record { domain = stand .domain p l o; suits = a .1; go = stays C p (a .0) }; counted = λ t. absurd (not-both t (still C p)) }
+
+  -- no lot clashes with a decided one
+  beside-decided : (p q : ℕ) → p < R .lots → q < R .lots → on p ≡ true → on q ≡ true → (p ≡ q → ⊥) → getD m q 0 < 16 → together R p (to C m p) q (to C m q) ≡ true
+  beside-decided p q l i o u d h = rw (to-decided C m q h) (suits-read R on m p (to C m p) (goes p l o .fit .suits) q i u d h)
+
+  beside : (p q : ℕ) → p < R .lots → q < R .lots → on p ≡ true → on q ≡ true → (p ≡ q → ⊥) → together R p (to C m p) q (to C m q) ≡ true
+  beside p q l i o u d = elim (decLt (getD m q 0) 16) [
+    | yes h ↦ beside-decided p q l i o u d h
+    | no h ↦ elim (decLt (getD m p 0) 16) [
+      | yes g ↦ mirror p (to C m p) q (to C m q) l (to-under C m p) i (to-under C m q) ∙ beside-decided q p i l u o (λ z. d (sym z)) g
+      | no g ↦ rw (to-rest C m p (omega arith) (stood-under p l o), to-rest C m q (omega arith) (stood-under q i u)) (stand .pairs p q l i o u d)
+    ]
+  ]
+
+  -- the partial repair
+  abbrev goal : List ℕ
+  goal = listOf (to C m) (R .lots)
+
+  abbrev at : (p : ℕ) → p < R .lots → getD goal p 0 ≡ to C m p
+  at p l = listOf-at (to C m) (R .lots) p l
+
+  long : length goal ≡ R .lots
+  long = length-listOf (to C m) (R .lots)
+
+  in-week : {p : ℕ} → p < length goal → p < R .lots
+  in-week {p} l = rw long at l
+
+  goal-mends : MendsOn R C on goal
+  goal-mends = record {
+    keep = keepsOn-make R on goal (record {
+      domain = λ p l o. rw (at p (in-week l)) (goes p (in-week l) o .fit .domain);
+      pairs = λ p q l i o u d. rw (at p (in-week l), at q (in-week i)) (beside p q (in-week l) (in-week i) o u d);
+    });
+    go = λ p l o. rw (at p (in-week l)) (goes p (in-week l) o .fit .go);
+    few = rw long (let a = few-uses R C on m e in let b = count-fewer (λ p. on p && moves C p (getD goal p 0)) (λ p. on p && uses R C on m p) (R .lots) (R .lots) (omega arith) used in omega arith);
+  }
+    where
+      used : (p : ℕ) → p < R .lots → (on p && moves C p (getD goal p 0)) ≡ true → (on p && uses R C on m p) ≡ true
+      used p l t =
+          let o = and-left (on p) (moves C p (getD goal p 0)) t in
+          both o (goes p l o .counted (ap (moves C p) (sym (at p l)) ∙ and-right (on p) (moves C p (getD goal p 0)) t))
+
+  -- on a symmetric tie table, and where the lots that are on keep the rules as they stand
+  pub settled-mended : mendedOn R C on ≡ true
+  settled-mended = mended-make R C on goal (record { len = long; under = under-all goal (λ p l. rw (at p (in-week l)) (to-under C m p)); good = mendsOn-make R C on goal goal-mends; final = refl })
+
+-- The search: its answers are those of `mendedOn`
+
+module _ (R : Rules) (C : Case) (on : ℕ → Bool) where
+  -- the start m, where no lot is decided, has no order to extend it
+  pub none-mended : (m o : List ℕ) → Empty (R .lots) 16 m → Decides (RepairsOn R C on) (R .lots) 16 m false o → mendedOn R C on ≡ false
+  none-mended m o h f = false-of (mendedOn R C on) (λ t. let r = mended-read R C on t in f (r .0) (r .1) (λ p l g. absurd (let a = h p l in omega arith)))
+
+  -- no lot has to move at the start
+  pub start-mended : (m : List ℕ) → Symmetric R → KeepsOn R on (R .lots) (C .stands) → Empty (R .lots) 16 m → Settled R C on m → mendedOn R C on ≡ may R C on m
+  start-mended m mirror stand h s =
+      same-truth (mendedOn R C on) (may R C on m)
+      (λ t. let r = mended-read R C on t in may-needed R C on .needed m (r .0) (r .1) (λ p l g. absurd (let a = h p l in omega arith)))
+      (λ e. settled-mended R C on mirror stand m e s)
+
+  -- a turn of the loop, at the lot of level d: `from` is the start, m what is decided
+  module _ {from m levels slots : List ℕ} {d v r : ℕ} (c : Turn (RepairsOn R C on) (R .lots) 16 (may R C on) from m levels slots d v r) where
+    -- a slot was found, and no lot is left that has to move
+    pub turn-mended : Symmetric R → KeepsOn R on (R .lots) (C .stands) → r < 16 → Settled R C on (set m (getD levels d 0) r) → mendedOn R C on ≡ true
+    turn-mended mirror stand h s = settled-mended R C on mirror stand (set m (getD levels d 0) r) (c .picked .hit h) s
+
+    -- none was found on the first level
+    pub turn-unmended : Empty (R .lots) 16 from → 16 ≤ r → d ≡ 0 → mendedOn R C on ≡ false
+    turn-unmended h l e = none-mended from from h (turn-none c l from e)
