@@ -259,6 +259,10 @@ module _ (W : Week) (order table : List ℕ) (e : solveAnswer W order table ≡ 
       ap (λ (t : Bool). cond t (cond (eqb (length A) 0) found its) []) (eq-eqb (rowAnswer (lots W) (W .numbers .a) found written A) 0 row-taken)
       ∙ ap (λ (t : Bool). cond t found its) (ne-eqb (length A) 0 (λ z. omega arith))
 
+  -- so what row returns after a loss is a repair for it, and no repair is before it
+  pub row-repairs : isBreak W found A ≡ true → FirstOf (Repair W found A) (rowPart (lots W) (W .numbers .a) found written A)
+  row-repairs b = subst (FirstOf (Repair W found A)) (sym row-shows) (solve-rows W order table e A set .broken b)
+
   -- repair answers the row of a break
   pub repair-is-row : isBreak W found A ≡ true → (out : List ℕ) → length out ≡ lots W → (repairAnswer W found A out ≡ 0) × (repairOut W found A out ≡ its)
   unfolding repairLengths
