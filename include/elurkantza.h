@@ -6,7 +6,7 @@
  * What a caller owes: every pointer points to as many elements as its length says, and is not NULL, also where the length is 0; what a
  * call writes overlaps nothing else that it is lent.
  *
- * A week is n lots, numbered from 0, and slots 0 to 15; bit s of a 16-bit word stands for slot s. Every call takes it as:
+ * A week is n lots, numbered from 0, and slots 0 to 15; bit s of a 16-bit word stands for slot s. Every call but row and read takes it as:
  *   n            lots, 1 to 24
  *   a, b         up to a (0 to 2) lots lose their slots at once; to repair that, up to b (0 to 3) others may move
  *   alternative  1: a lost lot's new slot is later than its old one by more than `gap` (0 to 15); 0: any other slot, and gap is 0
@@ -21,8 +21,9 @@
  * a = 2. Row numbers count from 0: each single lot, then the pairs (0,1), (0,2) and so on. A row is the order to run when those lots
  * have lost their slots.
  *
- * Every call answers 0 if it is done, or the first of these numbers whose reason holds. Refused, it leaves every buffer and the sheet as
- * they were, and what it gives through `row`, `copy`, `order24`, `numbers6` or open's `sheet` is 0 throughout.
+ * Every call answers 0 if it is done, or the first of these numbers whose reason holds; read asks for 2, 15 (the length), 16 and 17 block
+ * by block, 1, 15 (the need), 18, 3 and 4, in that order. Refused, a call leaves every buffer and the sheet as they were, and what it
+ * gives through `row`, `copy`, `order24`, `numbers6` or open's `sheet` is 0 throughout.
  *    1  a number is outside its limits; lost lots are not ascending, not below n, or too many (repair: none)
  *    2  a length is wrong
  *    3  a domain is empty, or a loss or give word has a slot outside it
@@ -72,14 +73,17 @@ uint32_t elurkantza_solve(ELURKANTZA_WEEK, uint8_t *order, size_t order_len, uin
 
 /* Judges an order and a table made anywhere. Done, the order survives every loss and each row is a repair of its loss, though it need
  * not be the first one. */
-uint32_t elurkantza_check(ELURKANTZA_WEEK, const uint8_t *order, size_t order_len, const uint8_t *table, size_t table_len, uint32_t *row);
+uint32_t elurkantza_check(ELURKANTZA_WEEK, const uint8_t *order, size_t order_len, const uint8_t *table, size_t table_len,
+                          uint32_t *row);
 
 /* Finds the first repair of an order when one or two lots, ascending in `lost`, have lost their slots in fact, whatever a and the loss
  * words say. It goes into `out` (n bytes). */
-uint32_t elurkantza_repair(ELURKANTZA_WEEK, const uint8_t *order, size_t order_len, const uint8_t *lost, size_t lost_len, uint8_t *out, size_t out_len);
+uint32_t elurkantza_repair(ELURKANTZA_WEEK, const uint8_t *order, size_t order_len, const uint8_t *lost, size_t lost_len,
+                           uint8_t *out, size_t out_len);
 
 /* Copies the order to run into `out` (n bytes): the order if `lost` is empty, otherwise the table's row for the lots in it, at most a. */
-uint32_t elurkantza_row(uint32_t n, uint32_t a, const uint8_t *order, size_t order_len, const uint8_t *table, size_t table_len, const uint8_t *lost, size_t lost_len, uint8_t *out, size_t out_len);
+uint32_t elurkantza_row(uint32_t n, uint32_t a, const uint8_t *order, size_t order_len, const uint8_t *table, size_t table_len,
+                        const uint8_t *lost, size_t lost_len, uint8_t *out, size_t out_len);
 
 /* Begins a sheet on an order: no saves, no marks. Whatever `sheet` held before is lost; refused, it is all 0. */
 uint32_t elurkantza_open(ELURKANTZA_WEEK, const uint8_t *order, size_t order_len, struct elurkantza_sheet *sheet);
@@ -94,7 +98,9 @@ uint32_t elurkantza_save(ELURKANTZA_WEEK, struct elurkantza_sheet *sheet, uint32
 /* Reads a block file. The six numbers go into `numbers6` in the order n, a, b, alternative, gap, helper; the words into buffers of 24, 24,
  * 24 and 9,216, those that are not used 0. The other calls take the first n, n, n and n * n * 16 of them. Refused, the numbers are 0 and
  * the tables as they were; a `numbers6` of another length than 6 is left as it was. */
-uint32_t elurkantza_read(const uint8_t *file, size_t file_len, uint32_t *numbers6, size_t numbers6_len, uint16_t *domain, size_t domain_len, uint16_t *loss, size_t loss_len, uint16_t *give, size_t give_len, uint16_t *ties, size_t ties_len);
+uint32_t elurkantza_read(const uint8_t *file, size_t file_len, uint32_t *numbers6, size_t numbers6_len,
+                         uint16_t *domain, size_t domain_len, uint16_t *loss, size_t loss_len,
+                         uint16_t *give, size_t give_len, uint16_t *ties, size_t ties_len);
 
 /* Writes the week's block file into `file`: blocks of 512 bytes with 504 of content each, for 6 + 6 * n + 16 * n * (n - 1) bytes. */
 uint32_t elurkantza_write(ELURKANTZA_WEEK, uint8_t *file, size_t file_len);
