@@ -22,9 +22,9 @@ use Rattle.repair.specs.declared.Lost.{Lost}
 use Rattle.repair.specs.Break.{lotsFrom, single, pair, singles, pairsOf, pairs, lostSets, breaks, rowCount}
 use Rattle.repair.specs.Found.{lotsOf}
 use Rattle.repair.specs.Repair.{Case, case, mayGo, moves, goesAt, movesAt, mends, repairOf}
-use Rattle.solve.specs.Super.{rowSets, isBreak, repairFor, safe, robust}
-use Rattle.solve.proofs.Rows.{every-row}
-use Rattle.solve.proofs.Super.{sets-make}
+use Rattle.robust.specs.Super.{rowSets, isBreak, repairFor, safe, robust}
+use Rattle.robust.proofs.Rows.{every-row}
+use Rattle.robust.proofs.Super.{sets-make}
 use Rattle.cuts.specs.Cut.{whole, lotStandsOn, keepsOn, movesOn, mendsOn, RepairsOn, mendedOn, breaksOn, safeOn, robustOn}
 
 -- With every lot on

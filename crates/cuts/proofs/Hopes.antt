@@ -19,7 +19,7 @@ use Rattle.lex.proofs.First.{first-is}
 use Rattle.week.specs.Rules.{Rules, inDomain, together, keeps, beside}
 use Rattle.week.specs.Tables.{Week, lots, pairRules}
 use Rattle.week.proofs.Rules.{keeps-below, keeps-closed}
-use Rattle.solve.specs.Super.{robust, firstSuper}
+use Rattle.robust.specs.Super.{robust, firstSuper}
 use Rattle.parts.specs.Part.{placed, Extends, Full, Empty, Tested, Decides}
 use Rattle.parts.specs.Reason.{Agrees}
 use Rattle.parts.proofs.Outer.{Fixed, fixed-found, fixed-none}

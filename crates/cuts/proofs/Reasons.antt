@@ -10,7 +10,7 @@ use Rattle.lex.proofs.Every.{both, and-left, and-right, not-both, every-false}
 use Rattle.week.specs.Rules.{inDomain}
 use Rattle.week.specs.Tables.{Week, lots, pairRules}
 use Rattle.repair.specs.Break.{rowCount}
-use Rattle.solve.specs.Super.{rowSets}
+use Rattle.robust.specs.Super.{rowSets}
 use Rattle.parts.specs.Part.{placed}
 use Rattle.parts.specs.Reason.{Reason}
 use Rattle.cuts.specs.Cut.{whole, safeOn, robustOn}

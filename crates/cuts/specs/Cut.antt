@@ -10,7 +10,7 @@ use Rattle.lex.specs.First.{first, Passes, always, isFound}
 use Rattle.week.specs.Rules.{Rules, bitOf, slotStands, pairStands}
 use Rattle.week.specs.Tables.{Week, pairRules}
 use Rattle.repair.specs.Repair.{Case, case, goesAt, movesAt}
-use Rattle.solve.specs.Super.{rowSets}
+use Rattle.robust.specs.Super.{rowSets}
 
 -- every lot is on
 abbrev pub whole : ℕ → Bool

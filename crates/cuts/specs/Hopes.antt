@@ -10,7 +10,7 @@ use Rattle.lex.specs.Every.{imp, every}
 use Rattle.lex.specs.First.{Passes}
 use Rattle.week.specs.Rules.{Rules, bitOf, inDomain, keeps, beside}
 use Rattle.week.specs.Tables.{Week, lots, pairRules}
-use Rattle.solve.specs.Super.{robust}
+use Rattle.robust.specs.Super.{robust}
 use Rattle.parts.specs.Part.{placed}
 use Rattle.cuts.specs.Cut.{whole, robustOn}
 

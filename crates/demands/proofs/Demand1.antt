@@ -18,7 +18,7 @@ use Rattle.week.specs.Tables.{Week, lots, pairRules, numbersOk, lengthsOk, word
 use Rattle.repair.specs.Break.{lostOk}
 use Rattle.repair.specs.Repair.{case, repairOf}
 use Rattle.repair.specs.Service.{repairLengths, repairAnswer, repairOut, rowNumbers, rowLengths, rowAnswer, rowPart}
-use Rattle.solve.specs.Super.{firstSuper}
+use Rattle.robust.specs.Super.{firstSuper}
 use Rattle.solve.specs.Service.{solveAnswer, solveOrder, solveTable}
 use Rattle.solve.specs.Judging.{rightAt, rowsOf, firstWrong, checkAnswer, checkRow}
 use Rattle.sheet.specs.declared.Sheet.{Sheet}

@@ -26,9 +26,9 @@ use Rattle.repair.specs.Break.{lostOk, rowNumber, rowCount, rowAt}
 use Rattle.repair.specs.Repair.{case, mends, isRepair}
 use Rattle.repair.specs.Service.{repairLengths, repairAnswer, repairOut, rowNumbers, rowLengths, rowAnswer, rowPart}
 use Rattle.repair.proofs.Mends.{repair-meets, repair-passes}
-use Rattle.solve.specs.Super.{rowSets, isBreak, repairFor, safe, robust, firstSuper, rowOf, tableOf}
+use Rattle.robust.specs.Super.{rowSets, isBreak, repairFor, safe, robust, firstSuper, rowOf, tableOf}
 use Rattle.solve.specs.Service.{solveAnswer, solveOrder, solveTable}
-use Rattle.solve.proofs.Table.{row-size, row-at, rows-size}
+use Rattle.robust.proofs.Table.{row-size, row-at, rows-size}
 use Rattle.demands.specs.Calls.{writeRefusals}
 use Rattle.demands.specs.Plans.{SetOfLots, Repair, Super, FirstOf, RowOf}
 use Rattle.demands.specs.Readings.{Reads}

@@ -16,7 +16,7 @@ use Rattle.week.proofs.Tables.{accepted, zero-first, zero-rest, passed-first, p
 use Rattle.repair.specs.Break.{rowNumber}
 use Rattle.repair.specs.Repair.{case, isRepair}
 use Rattle.repair.specs.Service.{rowLengths}
-use Rattle.solve.specs.Super.{rowSets, isBreak}
+use Rattle.robust.specs.Super.{rowSets, isBreak}
 use Rattle.solve.specs.Service.{solveAnswer, solveOrder, solveTable}
 use Rattle.solve.specs.Judging.{right, rightAt, rowsOf, firstWrong, checkAnswer, checkRow}
 use Rattle.solve.proofs.Service.{ready}

@@ -14,8 +14,8 @@ use Rattle.lex.specs.Every.{every, everyOf, same}
 use Rattle.lex.proofs.Every.{both, and-left, and-right, every-true, every-at, everyOf-append, same-eq, same-self}
 use Rattle.repair.specs.Break.{lotsFrom, single, pair, singles, pairsOf, pairs, lostSets, lostOk, place, rowNumber, rowCount}
 use Rattle.repair.proofs.Rows.{row-below}
-use Rattle.solve.proofs.Rows.{every-row, set-fewer, count-most}
-use Rattle.solve.proofs.Super.{sets-read, sets-make}
+use Rattle.robust.proofs.Rows.{every-row, set-fewer, count-most}
+use Rattle.robust.proofs.Super.{sets-read, sets-make}
 use Rattle.demands.specs.Plans.{SetOfLots}
 use Rattle.demands.proofs.Readings.{lost-reads}
 

@@ -15,7 +15,7 @@ use Rattle.week.specs.Tables.{Week, lots, pairRules, numbersOk, lengthsOk, word
 use Rattle.repair.specs.Break.{lostOk}
 use Rattle.repair.specs.Repair.{case, repairOf}
 use Rattle.repair.specs.Service.{repairLengths, rowNumbers, rowLengths}
-use Rattle.solve.specs.Super.{firstSuper}
+use Rattle.robust.specs.Super.{firstSuper}
 use Rattle.solve.specs.Judging.{rightAt, rowsOf}
 use Rattle.sheet.specs.declared.Sheet.{Sheet}
 use Rattle.sheet.specs.Moves.{movesOf, movesOk, fresh}

@@ -10,7 +10,7 @@ use Rattle.week.specs.Rules.{keeps}
 use Rattle.week.specs.Tables.{Week, lots, pairRules}
 use Rattle.repair.specs.Break.{rowNumber, rowAt}
 use Rattle.repair.specs.Repair.{case, isRepair}
-use Rattle.solve.specs.Super.{isBreak}
+use Rattle.robust.specs.Super.{isBreak}
 
 -- A names 1 to a of n lots, ascending
 pub record SetOfLots (n a : ℕ) (A : List ℕ) : Type 0 where

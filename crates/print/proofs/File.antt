@@ -18,7 +18,7 @@ use Rattle.week.specs.declared.Numbers.{Numbers}
 use Rattle.week.specs.Refusal.{unless}
 use Rattle.week.specs.Tables.{Week, week, lots, refusal}
 use Rattle.week.proofs.Tables.{accepted, runs-on, halts}
-use Rattle.solve.specs.Super.{firstSuper, tableOf}
+use Rattle.robust.specs.Super.{firstSuper, tableOf}
 use Rattle.solve.proofs.Service.{super-long}
 use Rattle.block.specs.Reading.{weekIn, fileRefusal, Given, given, givenWeek, readOf}
 use Rattle.block.proofs.Checks.{Buffers, buffers-good}

@@ -12,7 +12,7 @@ use Rattle.repair.specs.declared.Lost.{Lost}
 use Rattle.repair.specs.Break.{single, pair, lostSets, rowCount, rowAt}
 use Rattle.repair.specs.Found.{lotsOf}
 use Rattle.repair.proofs.Break.{lots-single, lots-pair}
-use Rattle.solve.proofs.Rows.{set-fewer}
+use Rattle.robust.proofs.Rows.{set-fewer}
 use Rattle.print.specs.Text.{digits, field, fields, lostLine}
 use Rattle.print.specs.Put.{Fits, Put, pieces, tableLine}
 use Rattle.print.proofs.Put.{put-more, put-as, fits-as, fits-first, fits-rest, pieces-more, pieces-fit}

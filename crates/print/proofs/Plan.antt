@@ -15,10 +15,10 @@ use Rattle.week.specs.Tables.{Week, lots, refusal, admits}
 use Rattle.week.proofs.Tables.{runs-on}
 use Rattle.repair.specs.Break.{rowCount}
 use Rattle.repair.specs.Service.{rowLengths}
-use Rattle.solve.specs.Super.{rowSets, firstSuper, rowOf, tableOf}
+use Rattle.robust.specs.Super.{rowSets, firstSuper, rowOf, tableOf}
 use Rattle.solve.specs.Service.{solveAnswer, solveOrder, solveTable, Solved}
 use Rattle.solve.proofs.Service.{super-long}
-use Rattle.solve.proofs.Table.{row-size, row-at, rows-size}
+use Rattle.robust.proofs.Table.{row-size, row-at, rows-size}
 use Rattle.print.specs.Text.{planLine, lostLine, refusedLine, rowLine, planLines}
 use Rattle.print.specs.Put.{tableLine, tableText, weekText}
 use Rattle.print.proofs.Put.{pieces-cong, pieces-flat}

@@ -14,7 +14,7 @@ use Rattle.lex.proofs.Every.{every-at}
 use Rattle.repair.specs.Break.{lotsFrom, single, pair, singles, pairsOf, pairs, lostSets, rowCount, rowAt}
 use Rattle.repair.proofs.Numbering.{count-two}
 use Rattle.repair.proofs.Rows.{count-none, count-one}
-use Rattle.solve.proofs.Rows.{every-row, set-fewer, count-most}
+use Rattle.robust.proofs.Rows.{every-row, set-fewer, count-most}
 use Rattle.print.specs.Text.{planWord, lostWord, colonWord, refusedWord, newline, digits, field, fields, planLine, lostLine, refusedLine, room}
 use Rattle.print.specs.Put.{Fits, pieces, tableLine, tableText}
 

@@ -8,7 +8,7 @@ use lib.ListN.{length, getD, take}
 use Rattle.lex.specs.First.{isFound, orOld}
 use Rattle.week.specs.Tables.{Week}
 use Rattle.repair.specs.Break.{lostSets, rowCount, rowAt}
-use Rattle.solve.specs.Super.{firstSuper}
+use Rattle.robust.specs.Super.{firstSuper}
 use Rattle.print.specs.Text.{planLine, lostLine, refusedLine, planLines}
 
 -- a piece has room in the buffer from `at` on

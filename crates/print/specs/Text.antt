@@ -10,7 +10,7 @@ use Rattle.lex.specs.First.{isFound, orOld}
 use Rattle.lex.specs.Padded.{padded}
 use Rattle.week.specs.Refusal.{unless, orElse}
 use Rattle.week.specs.Tables.{Week}
-use Rattle.solve.specs.Super.{rowSets, firstSuper, rowOf}
+use Rattle.robust.specs.Super.{rowSets, firstSuper, rowOf}
 use Rattle.block.specs.Reading.{weekIn, fileRefusal}
 
 -- "plan", "lost", " :", "refused" and the end of a line

@@ -119,7 +119,7 @@ fn put_rows(n: u32, a: u32, table: &[u8], at: usize, out: &mut [u8]) -> usize
     while i < rows {
         let from = i * lots;
         let to = from + lots;
-        end = put_lost_line(solve::lost_at(n, i), &table[from..to], end, out);
+        end = put_lost_line(robust::lost_at(n, i), &table[from..to], end, out);
         i += 1;
     }
     end

@@ -20,9 +20,9 @@ use Rattle.repair.specs.Break.{breaks, lostSets, rowAt}
 use Rattle.repair.specs.Repair.{case, mendsHalf, isRepair}
 use Rattle.repair.specs.Service.{rowLengths}
 use Rattle.repair.proofs.Mends.{mends-half}
-use Rattle.solve.specs.Super.{isBreak}
+use Rattle.robust.specs.Super.{isBreak}
 use Rattle.solve.specs.Judging.{right, rightAt, wrongAt, rowsOf, firstWrong, checkAnswer, checkRow, Judged}
-use Rattle.solve.proofs.Rows.{set-fewer}
+use Rattle.robust.proofs.Rows.{set-fewer}
 use Rattle.solve.proofs.Service.{Ready}
 
 -- One row

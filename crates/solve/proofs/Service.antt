@@ -20,7 +20,7 @@ use Rattle.week.proofs.Tables.{Limits, limits, accepted, joined-admits, admits-
 use Rattle.repair.specs.Break.{rowCount}
 use Rattle.repair.specs.Service.{rowLengths}
 use Rattle.repair.proofs.Mends.{found-wide, found-take}
-use Rattle.solve.specs.Super.{robust, firstSuper, tableOf}
+use Rattle.robust.specs.Super.{robust, firstSuper, tableOf}
 use Rattle.solve.specs.Service.{solveAnswer, solveOrder, solveTable, Solved}
 
 -- numbers that are not refused by 1 are within their limits, whatever the tables

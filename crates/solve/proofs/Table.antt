@@ -1,26 +1,27 @@
 -- Rows of the repair table: what the code writes into one, and how the rows stand one behind the other.
 -- Assumes nothing.
 use mathlib.Core.Path.{_≡_, refl, sym, _∙_, ap, ap₂}
-use mathlib.Core.Bool.{Bool, true, false, cond, true≢false}
+use mathlib.Core.Bool.{true, false, true≢false}
 use mathlib.Core.List.{List, [], _∷_, _++_, flatMap, append-nil, append-assoc}
 use mathlib.Core.Option.{Option, none, some}
-use Prim.Native.Nat.{ℕ, zero, suc, _+_, _-_, _*_, _≤_, _<_}
+use Prim.Native.Nat.{ℕ, _+_, _-_, _*_, _≤_, _<_}
 use native.Mathlib.Omega.{arith}
 use native.Mathlib.Numerals.{add-one}
-use native.Mathlib.Nat.{suc-mul, mul-le-mul, mul-le-mul-right, zero-mul}
+use native.Mathlib.Nat.{suc-mul, zero-mul}
 use borrow.Rule.Slice.PartMut.{putMid, same-len-mid}
 use lib.ListN.{length, getD, take, drop, length-append, length-drop}
-use lib.Seq.{take-all, take-suc, take-length, length-take-le, take-at, drop-append-add}
+use lib.Seq.{take-all, take-suc, take-length, length-take-le, take-at}
 use Rattle.lex.specs.First.{isFound, orOld}
 use Rattle.lex.specs.Padded.{padded}
 use Rattle.week.specs.Tables.{Week, lots, pairRules, refusal}
 use Rattle.week.proofs.Tables.{accepted}
-use Rattle.repair.specs.Break.{breaks, rowCount, rowAt}
+use Rattle.repair.specs.Break.{breaks, rowCount}
 use Rattle.repair.specs.Repair.{case, repairHalf}
 use Rattle.repair.proofs.Rows.{count-small}
 use Rattle.repair.proofs.Mends.{repair-half, half-long, found-wide, found-take}
-use Rattle.solve.specs.Super.{isBreak, repairFor, rowOf, rowSets, tableOf}
-use Rattle.solve.proofs.Rows.{count-most}
+use Rattle.robust.specs.Super.{isBreak, repairFor, rowOf, rowSets, tableOf}
+use Rattle.robust.proofs.Rows.{count-most}
+use Rattle.robust.proofs.Table.{from-small, to-within}
 
 -- One row
 
@@ -86,13 +87,6 @@ pub flat-none : (f : List ℕ → List ℕ) (l : List (List ℕ)) (t : List ℕ)
 unfolding flatMap
 flat-none f l t n = rw zero-mul
 
-module _ (n i rows : ℕ) (few : n ≤ 24) (more : i < rows) (small : rows ≤ 600) where
-  pub from-small : i * n ≤ 14400
-  from-small = mul-le-mul {n₁ = i} {m₁ = n} {n₂ = 600} {m₂ = 24} (omega arith) few
-
-  pub to-within : i * n + n ≤ rows * n
-  to-within = let m = mul-le-mul-right n more in let s = suc-mul i n in omega arith
-
 -- the place of row i in the table of an accepted week
 module _ (W : Week) (table : List ℕ) (i rows : ℕ) (fine : refusal W ≡ 0) (counted : rows ≡ rowCount (lots W) (W .numbers .a)) (room : length table ≡ rowCount (lots W) (W .numbers .a) * lots W) (more : i < rows) where
   small : rows ≤ 600
@@ -145,32 +139,3 @@ part-size n i table h = length-take-le (i * n + n - i * n) (drop (i * n) table) 
 pub written-all : (W : Week) (s table : List ℕ) (i : ℕ) → i ≡ rowCount (lots W) (W .numbers .a) → length table ≡ rowCount (lots W) (W .numbers .a) * lots W → take (i * lots W) table ≡ flatMap (rowOf W s) (take i (rowSets W)) → table ≡ tableOf W s
 unfolding tableOf rowCount
 written-all W s table i e f g = sym (take-all (i * lots W) table (omega (arith, ap (λ (m : ℕ). m * lots W) e))) ∙ g ∙ rw e (flat-all (rowOf W s) (rowSets W))
-
--- every row has a slot for each lot
-pub row-size : (W : Week) (s A : List ℕ) → refusal W ≡ 0 → length s ≡ lots W → length (rowOf W s A) ≡ lots W
-unfolding rowOf repairFor
-row-size W s A fine size = go (isBreak W s A)
-  where
-    found : (o : Option (List ℕ)) → repairHalf (pairRules W) (case (W .numbers) (W .give) s A) ≡ o → length (orOld o s) ≡ lots W
-    found none e = size
-    found (some r) e = half-long (pairRules W) (case (W .numbers) (W .give) s A) r e
-
-    go : (t : Bool) → length (cond t (orOld (repairFor W s A) s) s) ≡ lots W
-    go true = rw (repair-half (pairRules W) (case (W .numbers) (W .give) s A) (accepted W fine .symmetric)) (found (repairHalf (pairRules W) (case (W .numbers) (W .give) s A)) refl)
-    go false = size
-
--- row i of rows of n bytes, one behind the other
-pub row-at : (f : List ℕ → List ℕ) (n : ℕ) → ((A : List ℕ) → length (f A) ≡ n) → (l : List (List ℕ)) (i : ℕ) → i < length l → rowAt n (flatMap f l) i ≡ f (getD l i [])
-unfolding rowAt flatMap
-row-at f n size [] i h = absurd (omega arith)
-row-at f n size (A ∷ l) zero h = ap (λ (m : ℕ). take n (drop m (f A ++ flatMap f l))) (zero-mul n) ∙ take-at (f A) (flatMap f l) n (size A)
-row-at f n size (A ∷ l) (suc i) h =
-    let e : suc i * n ≡ length (f A) + i * n = let z = size A in let m = suc-mul i n in omega arith in
-    ap (take n) (ap (λ (m : ℕ). drop m (f A ++ flatMap f l)) e ∙ drop-append-add (f A) (flatMap f l) (i * n))
-    ∙ row-at f n size l i (omega arith)
-
-pub rows-size : (f : List ℕ → List ℕ) (n : ℕ) → ((A : List ℕ) → length (f A) ≡ n) → (l : List (List ℕ)) → length (flatMap f l) ≡ length l * n
-unfolding flatMap
-rows-size f n size [] = sym (zero-mul n)
-rows-size f n size (A ∷ l) =
-    let m = suc-mul (length l) n in let z = size A in let r = rows-size f n size l in let e = length-append (f A) (flatMap f l) in omega arith

@@ -14,7 +14,7 @@ use Rattle.week.specs.Tables.{Week, lots, pairRules, admits}
 use Rattle.repair.specs.Break.{rowCount, rowAt}
 use Rattle.repair.specs.Repair.{case, isRepair}
 use Rattle.repair.specs.Service.{rowLengths}
-use Rattle.solve.specs.Super.{rowSets, isBreak}
+use Rattle.robust.specs.Super.{rowSets, isBreak}
 
 -- row r is right for the set in order s: some repair of a break, and the order itself where the set is none
 unfoldable pub right : Week → List ℕ → List ℕ → List ℕ → Bool

@@ -9,7 +9,7 @@ use Rattle.lex.specs.First.{isFound, orOld}
 use Rattle.week.specs.Refusal.{unless, orElse}
 use Rattle.week.specs.Tables.{Week, lots, admits}
 use Rattle.repair.specs.Service.{rowLengths}
-use Rattle.solve.specs.Super.{firstSuper, tableOf}
+use Rattle.robust.specs.Super.{firstSuper, tableOf}
 
 unfoldable pub solveAnswer : Week → List ℕ → List ℕ → ℕ
 solveAnswer W order table =

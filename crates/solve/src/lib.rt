@@ -6,9 +6,8 @@ use week::Numbers;
 use week::Order;
 use week::Slot;
 ghost use mathlib.Core.Path.{_≡_};
-ghost use mathlib.Core.List.{[]};
 ghost use Prim.Native.Nat.{_*_, _≤_, _<_};
-ghost use lib.ListN.{length, getD};
+ghost use lib.ListN.{length};
 ghost use Rattle.lex.specs.Scan.{scanFrom};
 ghost use Rattle.week.specs.Rules.{rules, fits};
 ghost use mathlib.Core.Bool.{true};
@@ -17,44 +16,14 @@ ghost use Rattle.repair.specs.Service.{rowLengths};
 ghost use Rattle.solve.specs.Service.{Solved};
 ghost use Rattle.solve.specs.Judging.{right, firstWrong, Judged};
 ghost use Rattle.lex.specs.Every.{same};
-ghost use Rattle.repair.specs.Break.{lostSets, breaks, rowCount};
+ghost use Rattle.repair.specs.Break.{rowCount};
 ghost use Rattle.repair.specs.Found.{lotsOf, Holds};
-ghost use Rattle.solve.specs.Super.{safe, robust, firstSuper, rowOf, tableOf};
+ghost use Rattle.robust.specs.Super.{safe, robust, firstSuper, rowOf, tableOf};
 
 // What check answers: refusal or 0, and with 7 the number of the first wrong row, which is 0 otherwise.
 pub struct Checked {
     pub answer: u32,
     pub row: u32,
-}
-
-// The loss that row i of a repair table stands for: a single lot, or behind those a pair. Inner layers share it: they know the limits.
-pub fn lost_at(n: u32, i: usize) -> Lost
-    requires { ⌜ (1 ≤ n) × ((n ≤ 24) × (i < rowCount n 2)) ⌝ }
-    ensures { λ r. ⌜ lotsOf r ≡ getD (lostSets n 2) i [] ⌝ }
-{
-    let lots = n as usize;
-    if i < lots {
-        return Lost(Lot(i as u8), Lot(i as u8));
-    }
-    let mut left = i - lots;
-    let mut p: usize = 0;
-    while lots - p - 1 <= left {
-        left -= lots - p - 1;
-        p += 1;
-    }
-    Lost(Lot(p as u8), Lot((p + 1 + left) as u8))
-}
-
-// Whether each lot of a loss stands in a slot of its loss word.
-fn is_break(loss: &[u16], order: &[u8], lost: Lost) -> bool
-    ensures { λ r. ⌜ r ≡ breaks (now (loss .entry)) (now (order .entry)) (lotsOf lost) ⌝ }
-{
-    let first = lost.0;
-    let last = lost.1;
-    if !week::bit(week::word_of(loss, first), week::slot_in(order, first)) {
-        return false;
-    }
-    week::bit(week::word_of(loss, last), week::slot_in(order, last))
 }
 
 // Whether a loss is no break of the order, or has a repair.
@@ -70,7 +39,7 @@ fn is_safe(
     requires { ⌜ refusal (week numbers (now domain) (now loss) (now give) (now ties)) ≡ 0 ⌝ }
     ensures { λ r. ⌜ r ≡ safe (week numbers (now (domain .entry)) (now (loss .entry)) (now (give .entry)) (now (ties .entry))) (now (order .entry)) (lotsOf lost) ⌝ }
 {
-    if !is_break(loss, order, lost) {
+    if !robust::is_break(loss, order, lost) {
         return true;
     }
     let found = repair::find_repair(numbers, domain, give, ties, order, lost);
@@ -99,7 +68,7 @@ fn is_robust(
             give,
             ties,
             order,
-            lost_at(numbers.n, i),
+            robust::lost_at(numbers.n, i),
         ) {
             return false;
         }
@@ -190,7 +159,7 @@ fn put_row(
     ensures { λ _. ⌜ now (row .exit) ≡ rowOf (week numbers (now (domain .entry)) (now (loss .entry)) (now (give .entry)) (now (ties .entry))) (now (order .entry)) (lotsOf lost) ⌝ }
 {
     repair::copy_slots(order, row);
-    if !is_break(loss, order, lost) {
+    if !robust::is_break(loss, order, lost) {
         return;
     }
     let found = repair::find_repair(numbers, domain, give, ties, order, lost);
@@ -227,7 +196,7 @@ fn put_rows(
             give,
             ties,
             order,
-            lost_at(numbers.n, i),
+            robust::lost_at(numbers.n, i),
             &mut table[from..to],
         );
         i += 1;
@@ -315,7 +284,7 @@ fn is_right(
     requires { ⌜ (refusal (week numbers (now domain) (now loss) (now give) (now ties)) ≡ 0) × ((length (now order) ≡ numbers .n) × (length (now row) ≡ numbers .n)) ⌝ }
     ensures { λ r. ⌜ r ≡ right (week numbers (now (domain .entry)) (now (loss .entry)) (now (give .entry)) (now (ties .entry))) (now (order .entry)) (lotsOf lost) (now (row .entry)) ⌝ }
 {
-    if !is_break(loss, order, lost) {
+    if !robust::is_break(loss, order, lost) {
         return is_order(row, order);
     }
     repair::is_repair(numbers, domain, give, ties, order, lost, row)
@@ -347,7 +316,7 @@ fn wrong_row(
             give,
             ties,
             order,
-            lost_at(numbers.n, i),
+            robust::lost_at(numbers.n, i),
             &table[begin..end],
         ) {
             return i;

@@ -10,7 +10,7 @@ use Rattle.week.specs.Rules.{bitOf, wordOf, inside, inDomain, tieWord, together
 use Rattle.week.specs.Tables.{numbersOk, lengthsOk, lotOk, lotOkAt, wordsOk, bitOk, wordOk, pairOk, lotTiesOk, tiesOk, admits}
 use Rattle.repair.specs.Break.{lotsFrom, single, pair, singles, pairsOf, pairs, lostSets, breaks}
 use Rattle.repair.specs.Repair.{isLost, replaces, yields, helps, mayGo, moves, goesAt, movesAt, mends, repairOf}
-use Rattle.solve.specs.Super.{isBreak, repairFor, safe, robust, isSuper, firstSuper, rowOf, rows}
+use Rattle.robust.specs.Super.{isBreak, repairFor, safe, robust, isSuper, firstSuper, rowOf, rows}
 use Rattle.sheet.specs.Moves.{movesOf, isOf, names, moveOk, once, movesOk, near, freshAt, freshLot, freshMove, fresh, stirs, placedAll, markedAll}
 use Rattle.sheet.specs.Sheet.{zeros, blank, stands, openAnswer, newSheet, opened, markOk, soundMarks, sound, copyAnswer, copied, resultOk, saveAnswer, withMoves, saved}
 use Rattle.sheet.specs.History.{step, after}

@@ -11,7 +11,7 @@ use Rattle.week.specs.declared.Numbers.{Numbers}
 use Rattle.week.specs.Rules.{bitOf, wordOf}
 use Rattle.week.specs.Tables.{Week, week, refusal}
 use Rattle.repair.specs.Break.{lotsFrom}
-use Rattle.solve.specs.Super.{repairFor, isSuper, firstSuper, rows}
+use Rattle.robust.specs.Super.{repairFor, isSuper, firstSuper, rows}
 use Rattle.sheet.specs.declared.Sheet.{Sheet}
 use Rattle.sheet.specs.Sheet.{opened, copied, saved}
 use Rattle.sheet.specs.History.{Call, copying, saving, after, orderOf}

@@ -6,8 +6,8 @@ use native.Mathlib.Omega.{arith}
 use lib.ListN.{length}
 use borrow.Author.Needs.{needs}
 use Rattle.repair.proofs.Rows.{count-small}
-use Rattle.solve.proofs.Rows.{count-most}
-use Rattle.solve.proofs.Table.{from-small, to-within}
+use Rattle.robust.proofs.Rows.{count-most}
+use Rattle.robust.proofs.Table.{from-small, to-within}
 use Rattle.print.specs.Put.{Put, pieces, tableLine}
 use Rattle.print.proofs.Put.{pieces-none}
 use Rattle.print.proofs.Lines.{line-fits, line-put, lines-put}

@@ -14,8 +14,8 @@ use Rattle.week.specs.Rules.{fits, keepsHalf}
 use Rattle.week.specs.Tables.{Week, week, lots, pairRules}
 use Rattle.week.proofs.Rules.{half-nil, half-link}
 use Rattle.week.proofs.Tables.{accepted}
-use Rattle.solve.specs.Super.{robust}
-use Rattle.solve.proofs.Super.{super-space, super-passes, super-is}
+use Rattle.robust.specs.Super.{robust}
+use Rattle.robust.proofs.Super.{super-space, super-passes, super-is}
 use Rattle.solve.proofs.find_super.Statement.{statement}
 use Rattle.solve.proofs.find_super.Tie as tie
 

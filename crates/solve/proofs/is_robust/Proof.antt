@@ -11,9 +11,9 @@ use Rattle.lex.proofs.Every.{every-none, every-step, every-false, every-end}
 use Rattle.week.specs.Tables.{Week, week}
 use Rattle.week.proofs.Tables.{accepted}
 use Rattle.repair.specs.Break.{rowCount}
-use Rattle.solve.specs.Super.{safeRow}
-use Rattle.solve.proofs.Rows.{count-most}
-use Rattle.solve.proofs.Super.{robust-rows, safe-row}
+use Rattle.robust.specs.Super.{safeRow}
+use Rattle.robust.proofs.Rows.{count-most}
+use Rattle.robust.proofs.Super.{robust-rows, safe-row}
 use Rattle.solve.proofs.is_robust.Statement.{statement}
 use Rattle.solve.proofs.is_robust.Tie as tie
 

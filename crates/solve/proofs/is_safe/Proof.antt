@@ -4,7 +4,7 @@ use mathlib.Core.Path.{sym, _∙_}
 use borrow.Author.Tests.{not-true, not-false}
 use borrow.Author.Needs.{needs}
 use Rattle.week.proofs.Tables.{accepted}
-use Rattle.solve.proofs.Super.{safe-whole, safe-mended}
+use Rattle.robust.proofs.Super.{safe-whole, safe-mended}
 use Rattle.solve.proofs.is_safe.Statement.{statement}
 use Rattle.solve.proofs.is_safe.Tie as tie
 

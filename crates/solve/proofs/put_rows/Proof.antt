@@ -9,9 +9,10 @@ use borrow.Author.Needs.{needs}
 use Rattle.week.specs.Tables.{Week, week}
 use Rattle.week.proofs.Tables.{accepted}
 use Rattle.repair.specs.Break.{lostSets, rowCount}
-use Rattle.solve.specs.Super.{rowOf}
-use Rattle.solve.proofs.Rows.{set-fewer}
-use Rattle.solve.proofs.Table.{flat-none, place-small, place-inside, place-loss, written-size, written-rows, part-size, written-all, row-size}
+use Rattle.robust.specs.Super.{rowOf}
+use Rattle.robust.proofs.Rows.{set-fewer}
+use Rattle.robust.proofs.Table.{row-size}
+use Rattle.solve.proofs.Table.{flat-none, place-small, place-inside, place-loss, written-size, written-rows, part-size, written-all}
 use Rattle.solve.proofs.put_rows.Statement.{statement}
 use Rattle.solve.proofs.put_rows.Tie as tie
 

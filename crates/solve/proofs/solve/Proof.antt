@@ -6,7 +6,7 @@ use borrow.Author.Tests.{not-true, not-false}
 use borrow.Author.Needs.{needs}
 use Rattle.lex.specs.First.{isFound}
 use Rattle.week.specs.Tables.{Week, week}
-use Rattle.solve.specs.Super.{firstSuper}
+use Rattle.robust.specs.Super.{firstSuper}
 use Rattle.solve.proofs.Service.{by-tables, Ready, ready, by-none, wide, put-size, by-search}
 use Rattle.solve.proofs.solve.Statement.{statement}
 use Rattle.solve.proofs.solve.Tie as tie

@@ -1,12 +1,12 @@
--- `solve::is_break` meets its contract.
+-- `robust::is_break` meets its contract.
 -- Assumes nothing.
 use mathlib.Core.Path.{sym, _∙_, ap₂}
 use borrow.Author.Tests.{not-true, not-false}
 use borrow.Author.Needs.{needs}
 use Rattle.week.specs.Rules.{bitOf}
-use Rattle.solve.proofs.Rows.{breaks-both}
-use Rattle.solve.proofs.is_break.Statement.{statement}
-use Rattle.solve.proofs.is_break.Tie as tie
+use Rattle.robust.proofs.Rows.{breaks-both}
+use Rattle.robust.proofs.is_break.Statement.{statement}
+use Rattle.robust.proofs.is_break.Tie as tie
 
 word-of-requires : tie.Need-word-of-requires
 word-of-requires c κs = search needs

@@ -24,8 +24,8 @@ use Rattle.week.proofs.Tables.{accepted, accepted-keeps}
 use Rattle.repair.specs.Break.{singles, pairs, lostSets, breaks, rowCount}
 use Rattle.repair.specs.Repair.{case, replaces, yields, helps, mayGo, moves, goesAt, movesAt, repairHalf}
 use Rattle.repair.proofs.Mends.{mends-read, mends-make, repair-found, found-repair, repair-half}
-use Rattle.solve.specs.Super.{safeRow, firstSuper, isBreak, repairFor, safe, robust, isSuper}
-use Rattle.solve.proofs.Rows.{every-row, set-fewer}
+use Rattle.robust.specs.Super.{safeRow, firstSuper, isBreak, repairFor, safe, robust, isSuper}
+use Rattle.robust.proofs.Rows.{every-row, set-fewer}
 
 -- the week with other numbers a and b
 abbrev pub allow : Week → ℕ → ℕ → Week

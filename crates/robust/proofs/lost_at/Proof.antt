@@ -1,4 +1,4 @@
--- `solve::lost_at` meets its contract: the pair in row i is the one that is left among the pairs of the lots from p on.
+-- `robust::lost_at` meets its contract: the pair in row i is the one that is left among the pairs of the lots from p on.
 -- Assumes nothing.
 use mathlib.Core.Path.{_≡_, refl, sym, _∙_}
 use mathlib.Core.List.{[]}
@@ -7,9 +7,9 @@ use native.Mathlib.Omega.{arith}
 use lib.ListN.{length, getD}
 use borrow.Author.Needs.{needs}
 use Rattle.repair.specs.Break.{lostSets}
-use Rattle.solve.proofs.Rows.{rest, set-single, set-rest, rest-here, rest-later, rest-room, rest-less, rest-start, lost-single, lost-pair}
-use Rattle.solve.proofs.lost_at.Statement.{statement}
-use Rattle.solve.proofs.lost_at.Tie as tie
+use Rattle.robust.proofs.Rows.{rest, set-single, set-rest, rest-here, rest-later, rest-room, rest-less, rest-start, lost-single, lost-pair}
+use Rattle.robust.proofs.lost_at.Statement.{statement}
+use Rattle.robust.proofs.lost_at.Tie as tie
 
 abbrev Inv-loop : tie.InvT-loop
 Inv-loop n i lots left₀ p₀ left p = (p < n) × ((left < length (rest n p)) × (getD (rest n p) left [] ≡ getD (lostSets n 2) i []))
