@@ -26,7 +26,7 @@ pub struct Found {
 }
 
 // Whether a lot is lost.
-fn is_lost(lost: Lost, p: Lot) -> bool
+pub fn is_lost(lost: Lost, p: Lot) -> bool
     ensures { λ r. ⌜ r ≡ isLost (lotsOf lost) (p .0) ⌝ }
 {
     let x = lost.0;
@@ -71,7 +71,7 @@ fn helps_slot(numbers: Numbers, w: Slot, v: Slot) -> bool
 }
 
 // Whether a lot may go from where it stands to slot v, whatever the other lots do.
-fn may_go(numbers: Numbers, give: &[u16], order: &[u8], lost: Lost, p: Lot, v: Slot) -> bool
+pub fn may_go(numbers: Numbers, give: &[u16], order: &[u8], lost: Lost, p: Lot, v: Slot) -> bool
     ensures { λ r. ⌜ r ≡ mayGo (case numbers (now (give .entry)) (now (order .entry)) (lotsOf lost)) (p .0) (v .0) ⌝ }
 {
     let w = week::slot_in(order, p);

@@ -1,15 +1,10 @@
 // Super solutions: the first one and its repair table; and the judgement of an order and table made elsewhere.
-use repair::Found;
 use repair::Lost;
 use week::Lot;
 use week::Numbers;
-use week::Order;
-use week::Slot;
 ghost use mathlib.Core.Path.{_≡_};
-ghost use Prim.Native.Nat.{_*_, _≤_, _<_};
+ghost use Prim.Native.Nat.{_*_, _≤_};
 ghost use lib.ListN.{length};
-ghost use Rattle.lex.specs.Scan.{scanFrom};
-ghost use Rattle.week.specs.Rules.{rules, fits};
 ghost use mathlib.Core.Bool.{true};
 ghost use Rattle.week.specs.Tables.{week, refusal, admits};
 ghost use Rattle.repair.specs.Service.{rowLengths};
@@ -17,131 +12,13 @@ ghost use Rattle.solve.specs.Service.{Solved};
 ghost use Rattle.solve.specs.Judging.{right, firstWrong, Judged};
 ghost use Rattle.lex.specs.Every.{same};
 ghost use Rattle.repair.specs.Break.{rowCount};
-ghost use Rattle.repair.specs.Found.{lotsOf, Holds};
-ghost use Rattle.robust.specs.Super.{safe, robust, firstSuper, rowOf, tableOf};
+ghost use Rattle.repair.specs.Found.{lotsOf};
+ghost use Rattle.robust.specs.Super.{rowOf, tableOf};
 
 // What check answers: refusal or 0, and with 7 the number of the first wrong row, which is 0 otherwise.
 pub struct Checked {
     pub answer: u32,
     pub row: u32,
-}
-
-// Whether a loss is no break of the order, or has a repair.
-fn is_safe(
-    numbers: Numbers,
-    domain: &[u16],
-    loss: &[u16],
-    give: &[u16],
-    ties: &[u16],
-    order: &[u8],
-    lost: Lost,
-) -> bool
-    requires { ⌜ refusal (week numbers (now domain) (now loss) (now give) (now ties)) ≡ 0 ⌝ }
-    ensures { λ r. ⌜ r ≡ safe (week numbers (now (domain .entry)) (now (loss .entry)) (now (give .entry)) (now (ties .entry))) (now (order .entry)) (lotsOf lost) ⌝ }
-{
-    if !robust::is_break(loss, order, lost) {
-        return true;
-    }
-    let found = repair::find_repair(numbers, domain, give, ties, order, lost);
-    found.is
-}
-
-// Whether each break of the order has a repair.
-fn is_robust(
-    numbers: Numbers,
-    domain: &[u16],
-    loss: &[u16],
-    give: &[u16],
-    ties: &[u16],
-    order: &[u8],
-) -> bool
-    requires { ⌜ refusal (week numbers (now domain) (now loss) (now give) (now ties)) ≡ 0 ⌝ }
-    ensures { λ r. ⌜ r ≡ robust (week numbers (now (domain .entry)) (now (loss .entry)) (now (give .entry)) (now (ties .entry))) (now (order .entry)) ⌝ }
-{
-    let sets = repair::row_count(numbers.n, numbers.a);
-    let mut i: usize = 0;
-    while i < sets {
-        if !is_safe(
-            numbers,
-            domain,
-            loss,
-            give,
-            ties,
-            order,
-            robust::lost_at(numbers.n, i),
-        ) {
-            return false;
-        }
-        i += 1;
-    }
-    true
-}
-
-// The first slot of lot p from `from` on that is in its domain and stands beside every lot before p; 16 or more where there is none.
-fn pick_slot(n: u32, domain: &[u16], ties: &[u16], order: &[u8], p: Lot, from: Slot) -> Slot
-    ensures { λ r. ⌜ r .0 ≡ scanFrom 16 (fits (rules n (now (domain .entry)) (now (ties .entry))) (now (order .entry)) (p .0)) (from .0) ⌝ }
-{
-    let own = week::word_of(domain, p);
-    let before = p.0;
-    let mut v = from.0;
-    let chosen = 'slots: loop {
-        if 16 <= v {
-            break v;
-        }
-        let here = v;
-        v += 1;
-        if !week::bit(own, Slot(here)) {
-            continue 'slots;
-        }
-        let mut q: u8 = 0;
-        while q < before {
-            if !week::may_stand(n, ties, p, Slot(here), Lot(q), week::slot_in(order, Lot(q))) {
-                continue 'slots;
-            }
-            q += 1;
-        }
-        break here;
-    };
-    Slot(chosen)
-}
-
-// The first super solution: lot after lot, back one lot where no slot is left; a full order is judged by its breaks.
-fn find_super(numbers: Numbers, domain: &[u16], loss: &[u16], give: &[u16], ties: &[u16]) -> Found
-    requires { ⌜ refusal (week numbers (now domain) (now loss) (now give) (now ties)) ≡ 0 ⌝ }
-    ensures { λ r. ⌜ Holds (firstSuper (week numbers (now (domain .entry)) (now (loss .entry)) (now (give .entry)) (now (ties .entry)))) r ⌝ }
-{
-    let n = numbers.n as usize;
-    let mut slots = [0u8; 24];
-    let mut d: usize = 0;
-    let mut from: u8 = 0;
-    'lots: loop {
-        let chosen = pick_slot(numbers.n, domain, ties, &slots, Lot(d as u8), Slot(from));
-        let v = chosen.0;
-        if v < 16 {
-            slots[d] = v;
-            if d + 1 == n {
-                if is_robust(numbers, domain, loss, give, ties, &slots[..n]) {
-                    return Found {
-                        is: true,
-                        order: Order { slots },
-                    };
-                }
-                from = v + 1;
-                continue 'lots;
-            }
-            d += 1;
-            from = 0;
-            continue 'lots;
-        }
-        if d == 0 {
-            return Found {
-                is: false,
-                order: Order { slots: [0; 24] },
-            };
-        }
-        d -= 1;
-        from = slots[d] + 1;
-    }
 }
 
 // The row of a loss: the order, and over it the first repair if the loss is a break.
@@ -243,7 +120,7 @@ pub fn solve(
     if refused != 0 {
         return refused;
     }
-    let found = find_super(numbers, domain, loss, give, ties);
+    let found = finish::find_super(numbers, domain, loss, give, ties);
     if !found.is {
         return 5;
     }
