@@ -1,31 +1,23 @@
--- Laws of super solutions: fewer losses, and more lots that may move, keep a super solution one; and the code's search finds the first.
+-- Laws of super solutions: fewer losses, and more lots that may move, keep a super solution one.
 -- Assumes nothing.
-use mathlib.Core.Path.{_≡_, refl, sym, _∙_, ap}
-use mathlib.Core.Bool.{Bool, true, false, _&&_, cond}
+use mathlib.Core.Path.{_≡_, refl, sym, _∙_}
+use mathlib.Core.Bool.{Bool, true, _&&_, cond}
 use mathlib.Core.List.{List, []}
-use mathlib.Core.Option.{Option}
 use Prim.Native.Nat.{ℕ, _≤_, _<_}
 use native.Mathlib.Omega.{arith}
 use native.Mathlib.Decide.{decLt}
 use lib.Dec.{eqb, ltb}
-use lib.ListN.{length, getD}
+use lib.ListN.{length}
 use borrow.Author.Tests.{lt-ltb, le-ltb}
-use Rattle.lex.specs.Every.{everyOf, every}
-use Rattle.lex.specs.First.{isFound, Passes}
-use Rattle.lex.specs.Dictionary.{Meets}
+use Rattle.lex.specs.Every.{everyOf}
+use Rattle.lex.specs.First.{isFound}
 use Rattle.lex.proofs.Every.{both, and-left, and-right, imp-in, imp-out, everyOf-append, everyOf-imp}
-use Rattle.lex.proofs.Dictionary.{under-all}
-use Rattle.lex.proofs.First.{first-is, first-same}
-use Rattle.lex.proofs.Search.{Space, passes-space}
-use Rattle.week.specs.Rules.{keeps, keepsHalf}
-use Rattle.week.specs.Tables.{Week, lots, pairRules, refusal}
-use Rattle.week.proofs.Rules.{keeps-closed, half-closed, half-below}
-use Rattle.week.proofs.Tables.{accepted, accepted-keeps}
-use Rattle.repair.specs.Break.{singles, pairs, lostSets, breaks, rowCount}
-use Rattle.repair.specs.Repair.{case, replaces, yields, helps, mayGo, moves, goesAt, movesAt, repairHalf}
-use Rattle.repair.proofs.Mends.{mends-read, mends-make, repair-found, found-repair, repair-half}
-use Rattle.robust.specs.Super.{safeRow, firstSuper, isBreak, repairFor, safe, robust, isSuper}
-use Rattle.robust.proofs.Rows.{every-row, set-fewer}
+use Rattle.week.specs.Rules.{keeps}
+use Rattle.week.specs.Tables.{Week, lots, pairRules}
+use Rattle.repair.specs.Break.{singles, pairs, lostSets}
+use Rattle.repair.specs.Repair.{case, replaces, yields, helps, mayGo, moves, goesAt, movesAt}
+use Rattle.repair.proofs.Mends.{mends-read, mends-make, repair-found, found-repair}
+use Rattle.robust.specs.Super.{isBreak, repairFor, safe, robust, isSuper}
 
 -- the week with other numbers a and b
 abbrev pub allow : Week → ℕ → ℕ → Week
@@ -77,40 +69,3 @@ module _ (W : Week) (a b c d : ℕ) (fewer : a ≤ c) (more : d ≤ b) (s : List
       (sets-make (safe (allow W a b) s) (lots W) a
       (λ h. everyOf-imp (safe (allow W c d) s) (safe (allow W a b) s) (singles (lots W)) safe-more (sets .0 (omega arith)))
       (λ h. everyOf-imp (safe (allow W c d) s) (safe (allow W a b) s) (pairs (lots W)) safe-more (sets .1 (omega arith)))))
-
--- A set is safe
-
-module _ (W : Week) (s A : List ℕ) where
-  pub safe-whole : breaks (W .loss) s A ≡ false → true ≡ safe W s A
-  unfolding safe isBreak
-  safe-whole e = rw e
-
-  -- the set is a break, and `is` says whether the code's search found a repair
-  pub safe-mended : refusal W ≡ 0 → (is : Bool) → is ≡ isFound (repairHalf (pairRules W) (case (W .numbers) (W .give) s A)) → breaks (W .loss) s A ≡ true → is ≡ safe W s A
-  unfolding safe isBreak repairFor
-  safe-mended fine is e f = e ∙ rw (f, repair-half (pairRules W) (case (W .numbers) (W .give) s A) (accepted W fine .symmetric))
-
--- An order is robust if the set of each row is safe
-pub robust-rows : (W : Week) (s : List ℕ) → every (safeRow W s) (rowCount (lots W) (W .numbers .a)) ≡ robust W s
-unfolding robust safeRow rowCount
-robust-rows W s = sym (every-row (safe W s) (lostSets (lots W) (W .numbers .a)))
-
--- the set of a row, as the code finds it among the rows of two losses
-pub safe-row : (W : Week) (s A : List ℕ) (i : ℕ) (t : Bool) → refusal W ≡ 0 → i < rowCount (lots W) (W .numbers .a) → A ≡ getD (lostSets (lots W) 2) i [] → t ≡ safe W s A → t ≡ safeRow W s i
-unfolding safeRow
-safe-row W s A i t fine l e f = f ∙ ap (safe W s) (e ∙ sym (set-fewer (lots W) (W .numbers .a) i (accepted W fine .limits .breaks) l))
-
--- The search of the code finds the first super solution
-
-module _ (W : Week) (fine : refusal W ≡ 0) where
-  pub super-space : Space (Passes (keepsHalf (pairRules W)) (robust W) 16 (lots W)) (lots W) 16 (keepsHalf (pairRules W))
-  super-space = passes-space (keepsHalf (pairRules W)) (robust W) 16 (lots W) (half-closed (pairRules W)) (half-below (pairRules W))
-
-  pub super-passes : (s : List ℕ) → length s ≡ lots W → keepsHalf (pairRules W) s ≡ true → robust W s ≡ true → Passes (keepsHalf (pairRules W)) (robust W) 16 (lots W) s
-  super-passes s n e f = record { len = n; under = under-all s (half-below (pairRules W) s e); good = e; final = f }
-
-  pub super-is : (o : Option (List ℕ)) → Meets (Passes (keepsHalf (pairRules W)) (robust W) 16 (lots W)) o → firstSuper W ≡ o
-  unfolding firstSuper
-  super-is o m =
-      first-same (keeps (pairRules W)) (keepsHalf (pairRules W)) (robust W) 16 (lots W) (keeps-closed (pairRules W)) (half-closed (pairRules W)) (λ l n. accepted-keeps W (accepted W fine) l (omega arith))
-      ∙ sym (first-is (keepsHalf (pairRules W)) (robust W) 16 (half-closed (pairRules W)) (lots W) o m)

@@ -1,11 +1,11 @@
 -- Super solutions: orders in which each break has a repair; the first of them, and its repair table.
 -- Assumes nothing.
 use mathlib.Core.Bool.{Bool, _&&_, cond}
-use mathlib.Core.List.{List, [], map, flatMap}
+use mathlib.Core.List.{List, map, flatMap}
 use mathlib.Core.Option.{Option}
 use Prim.Native.Nat.{ℕ}
 use lib.Dec.{eqb}
-use lib.ListN.{length, getD}
+use lib.ListN.{length}
 use Rattle.lex.specs.Every.{imp, everyOf}
 use Rattle.lex.specs.First.{first, isFound, orOld}
 use Rattle.week.specs.Rules.{keeps}
@@ -28,10 +28,6 @@ repairFor W s A = repairOf (pairRules W) (case (W .numbers) (W .give) s A)
 -- the set is no break, or has a repair
 unfoldable pub safe : Week → List ℕ → List ℕ → Bool
 safe W s A = imp (isBreak W s A) (isFound (repairFor W s A))
-
--- the set of row i is safe
-unfoldable pub safeRow : Week → List ℕ → ℕ → Bool
-safeRow W s i = safe W s (getD (rowSets W) i [])
 
 -- each break has a repair
 unfoldable pub robust : Week → List ℕ → Bool
