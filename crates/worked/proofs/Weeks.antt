@@ -3,7 +3,7 @@
 use mathlib.Core.Path.{_≡_, refl}
 use mathlib.Core.Bool.{true}
 use mathlib.Core.List.{flatMap}
-use Rattle.lex.specs.Every.{every, count, everyOf, someOf}
+use Rattle.lex.specs.Every.{every, count, everyOf, someOf, same}
 use Rattle.lex.specs.First.{first, within, tryFrom}
 use Rattle.lex.specs.Padded.{padded}
 use Rattle.week.specs.Rules.{bitOf, wordOf, inside, inDomain, tieWord, together, slotStands, pairStands, lotStands, keeps, free, tied}
@@ -14,8 +14,8 @@ use Rattle.robust.specs.Super.{isBreak, repairFor, safe, robust, isSuper, first
 use Rattle.sheet.specs.Moves.{movesOf, isOf, names, moveOk, once, movesOk, near, freshAt, freshLot, freshMove, fresh, stirs, placedAll, markedAll}
 use Rattle.sheet.specs.Sheet.{zeros, blank, stands, openAnswer, newSheet, opened, markOk, soundMarks, sound, copyAnswer, copied, resultOk, saveAnswer, withMoves, saved}
 use Rattle.sheet.specs.History.{step, after}
-use Rattle.worked.specs.Weeks.{tieTable, numbers, inOrder, three, weekF, oneLot, two, twoLots, earlier, sameOrder, sameRows, answers, answersNone, replies, ends, holds, right, worked}
+use Rattle.worked.specs.Weeks.{tieTable, numbers, inOrder, three, weekF, oneLot, two, twoLots, earlier, sameRows, answers, answersNone, replies, ends, holds, right, worked}
 
 pub all-right : everyOf right worked ≡ true
-unfolding flatMap every count everyOf someOf first within tryFrom bitOf inside inDomain tieWord together slotStands pairStands lotStands keeps numbersOk lengthsOk lotOk lotOkAt wordsOk bitOk wordOk pairOk lotTiesOk tiesOk admits lotsFrom single pair singles pairsOf pairs lostSets breaks isLost replaces yields helps mayGo moves goesAt movesAt mends repairOf isBreak repairFor safe robust isSuper firstSuper rowOf rows wordOf tieTable numbers inOrder three weekF oneLot two twoLots earlier sameOrder sameRows answers answersNone replies ends holds right worked free tied movesOf isOf names moveOk once movesOk near freshAt freshLot freshMove fresh stirs placedAll markedAll padded zeros blank stands openAnswer newSheet opened markOk soundMarks sound copyAnswer copied resultOk saveAnswer withMoves saved step after
+unfolding flatMap every count everyOf someOf same first within tryFrom bitOf inside inDomain tieWord together slotStands pairStands lotStands keeps numbersOk lengthsOk lotOk lotOkAt wordsOk bitOk wordOk pairOk lotTiesOk tiesOk admits lotsFrom single pair singles pairsOf pairs lostSets breaks isLost replaces yields helps mayGo moves goesAt movesAt mends repairOf isBreak repairFor safe robust isSuper firstSuper rowOf rows wordOf tieTable numbers inOrder three weekF oneLot two twoLots earlier sameRows answers answersNone replies ends holds right worked free tied movesOf isOf names moveOk once movesOk near freshAt freshLot freshMove fresh stirs placedAll markedAll padded zeros blank stands openAnswer newSheet opened markOk soundMarks sound copyAnswer copied resultOk saveAnswer withMoves saved step after
 all-right = refl

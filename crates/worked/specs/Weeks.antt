@@ -6,7 +6,7 @@ use mathlib.Core.Option.{Option, none, some}
 use Prim.Native.Nat.{ℕ, zero, suc}
 use lib.Dec.{eqb, leb}
 use lib.ListN.{getD}
-use Rattle.lex.specs.Every.{everyOf}
+use Rattle.lex.specs.Every.{everyOf, same}
 use Rattle.week.specs.declared.Numbers.{Numbers}
 use Rattle.week.specs.Rules.{bitOf, wordOf}
 use Rattle.week.specs.Tables.{Week, week, refusal}
@@ -82,17 +82,11 @@ pub data Claim : Type 0 where
   repaired : List ℕ → List ℕ → List ℕ → Claim
   shared : List ℕ → List Call → List ℕ → List ℕ → ℕ → Claim
 
-unfoldable pub sameOrder : List ℕ → List ℕ → Bool
-sameOrder [] [] = true
-sameOrder [] (w ∷ t) = false
-sameOrder (v ∷ s) [] = false
-sameOrder (v ∷ s) (w ∷ t) = eqb v w && sameOrder s t
-
 unfoldable pub sameRows : List (List ℕ) → List (List ℕ) → Bool
 sameRows [] [] = true
 sameRows [] (r ∷ t) = false
 sameRows (r ∷ s) [] = false
-sameRows (r ∷ s) (q ∷ t) = sameOrder r q && sameRows s t
+sameRows (r ∷ s) (q ∷ t) = same r q && sameRows s t
 
 -- the answer is some order, which passes f
 unfoldable pub answers : (List ℕ → Bool) → Option (List ℕ) → Bool
@@ -111,14 +105,14 @@ replies W S (saving c m ∷ h) = saved W S c m .answer ∷ replies W (saved W S 
 
 -- a sheet that is not refused answers k and ends with order s and save number i
 unfoldable pub ends : Week → Sheet → List Call → List ℕ → List ℕ → ℕ → Bool
-ends W S h k s i = sameOrder (replies W S h) k && (sameOrder (orderOf W (after W S h)) s && eqb (after W S h .saves) i)
+ends W S h k s i = same (replies W S h) k && (same (orderOf W (after W S h)) s && eqb (after W S h .saves) i)
 
 unfoldable pub holds : Week → Claim → Bool
-holds W (solves s t) = answers (λ o. sameOrder o s && sameRows (rows W o) t) (firstSuper W)
+holds W (solves s t) = answers (λ o. same o s && sameRows (rows W o) t) (firstSuper W)
 holds W unsolved = answersNone (firstSuper W)
 holds W (super s) = isSuper W s
 holds W (notSuper s) = not (isSuper W s)
-holds W (repaired s lost r) = answers (sameOrder r) (repairFor W s lost)
+holds W (repaired s lost r) = answers (same r) (repairFor W s lost)
 holds W (shared o h k s i) = eqb (opened W o .answer) 0 && ends W (opened W o .sheet) h k s i
 
 pub record Worked : Type 0 where
