@@ -12,16 +12,17 @@ use lib.Dec.{eqb, leb}
 use lib.ListN.{length, take, drop}
 use borrow.Author.Tests.{leb-true, le-leb, eqb-true, eq-eqb}
 use Rattle.lex.specs.Every.{oneIf}
-use Rattle.lex.specs.Padded.{padded}
+use Rattle.lex.specs.Lists.{listOf, padded}
 use Rattle.lex.proofs.Every.{both, and-left, and-right, false-of, each, each-all, oneIf-le}
+use Rattle.lex.proofs.Lists.{length-list, list-at, list-beyond}
 use Rattle.week.specs.Rules.{bitOf, inside, wordOf}
 use Rattle.week.specs.Tables.{lotOk, lotOkAt}
 use Rattle.week.proofs.Tables.{zero-first, zero-rest, halts, runs-on}
 use Rattle.block.specs.Fnv.{fnv}
-use Rattle.block.specs.Parts.{listOf, orZero, pairAt, pairsBefore, pairNumber}
+use Rattle.block.specs.Parts.{orZero, pairAt, pairsBefore, pairNumber}
 use Rattle.week.specs.declared.Numbers.{Numbers}
 use Rattle.block.specs.Reading.{contentIn, wordIn, numbersIn, wordsAt, wordsIn, bufferTests, buffersOk, wholeBlocks, holds4, blockRefusal, blocksRefusal, tieHeld}
-use Rattle.block.proofs.Parts.{length-list, list-at, list-beyond, list-padded}
+use Rattle.block.proofs.Parts.{list-padded}
 
 -- 2
 

@@ -6,11 +6,13 @@ use Prim.Native.Nat.{ℕ, _+_, _*_, _-_, _/_, _%_, _<_}
 use native.Mathlib.Omega.{arith}
 use lib.ListN.{length, getD, take, drop, length-append}
 use lib.Seq.{take-at, drop-drop, drop-at}
+use Rattle.lex.specs.Lists.{listOf}
+use Rattle.lex.proofs.Lists.{length-list, list-cong, list-join}
 use Rattle.week.specs.Tables.{Week}
 use Rattle.block.specs.Fnv.{fnv}
-use Rattle.block.specs.Parts.{listOf, orZero, byteOf}
+use Rattle.block.specs.Parts.{orZero, byteOf}
 use Rattle.block.specs.File.{bodyByte, body, blockOf, fileByte}
-use Rattle.block.proofs.Parts.{length-list, list-cong, list-join, list-self, or-zero}
+use Rattle.block.proofs.Parts.{list-self, or-zero}
 
 pub length-body : (W : Week) (b : ℕ) → length (body W b) ≡ 508
 unfolding body

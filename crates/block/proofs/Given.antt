@@ -8,13 +8,13 @@ use native.Mathlib.Omega.{arith}
 use lib.Dec.{eqb}
 use lib.ListN.{length}
 use borrow.Author.Tests.{eqb-true, eq-eqb, ne-eqb}
-use Rattle.lex.specs.Padded.{padded}
+use Rattle.lex.specs.Lists.{padded}
+use Rattle.lex.proofs.Lists.{length-list}
 use Rattle.week.specs.declared.Numbers.{Numbers}
 use Rattle.week.specs.Tables.{Week, lots, pairRules, refusal, admits, numbersOk, lengthsOk, wordsOk, tiesOk}
 use Rattle.week.proofs.Tables.{Limits, limits, Lengths, stops, goes-on, goes-off, passed-first, passed-rest, passed-last, numbers-good, lengths-good, runs-on, zero-first, zero-rest}
 use Rattle.block.specs.File.{blocks}
 use Rattle.block.specs.Reading.{numbersIn, wordsAt, wordsIn, tiesAt, tiesIn, weekOf, weekIn, buffersOk, wholeBlocks, blocksRefusal, fillingOk, heldRefusal, fileRefusal, readRefusal, given, noNumbers, givenWeek, readOf}
-use Rattle.block.proofs.Parts.{length-list}
 use Rattle.block.proofs.Checks.{Whole, whole, whole-good}
 
 pub record Held (F : List ℕ) : Type 0 where

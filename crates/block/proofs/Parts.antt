@@ -1,4 +1,4 @@
--- Laws of lists by position, of loops that fill a buffer from the front, and of pairs by number.
+-- Laws of lists by what stands at their places, of loops that fill a buffer from the front, and of pairs by number.
 -- Assumes nothing.
 use mathlib.Core.Path.{_≡_, refl, sym, _∙_, ap, ap₂}
 use mathlib.Core.List.{List, [], _∷_, _++_, append-nil}
@@ -9,39 +9,15 @@ use native.Mathlib.Numerals.{add-one}
 use lib.ListN.{length, getD, set, take, drop, replicate, drop-of-length-le, length-append, length-drop, take-append-drop, List·getD-eq-default}
 use lib.Seq.{ext-getD, length-take-le}
 use borrow.Author.Tests.{lt-ltb, le-ltb}
-use Rattle.lex.specs.Padded.{padded}
-use Rattle.block.specs.Parts.{listOf, orZero, Pair, pair, pairFrom, pairsBefore}
+use Rattle.lex.specs.Lists.{listOf, padded}
+use Rattle.lex.proofs.Lists.{length-list, list-at, list-cong, list-join}
+use Rattle.block.specs.Parts.{orZero, Pair, pair, pairFrom, pairsBefore}
 
--- Lists by position
-
-pub length-list : (f : ℕ → ℕ) (n : ℕ) → length (listOf f n) ≡ n
-unfolding listOf
-length-list f zero = refl
-length-list f (suc n) = ap suc (length-list (λ i. f (suc i)) n)
-
-pub list-at : (f : ℕ → ℕ) (n i : ℕ) → i < n → getD (listOf f n) i 0 ≡ f i
-unfolding listOf
-list-at f zero i l = absurd (omega arith)
-list-at f (suc n) zero l = refl
-list-at f (suc n) (suc i) l = list-at (λ i. f (suc i)) n i (omega arith)
-
-pub list-beyond : (f : ℕ → ℕ) (n i : ℕ) → n ≤ i → getD (listOf f n) i 0 ≡ 0
-list-beyond f n i l = List·getD-eq-default (listOf f n) 0 (let h = length-list f n in omega arith)
-
-pub list-cong : (f g : ℕ → ℕ) (n : ℕ) → ((i : ℕ) → i < n → f i ≡ g i) → listOf f n ≡ listOf g n
-unfolding listOf
-list-cong f g zero h = refl
-list-cong f g (suc n) h = rw (h 0 (omega arith), list-cong (λ i. f (suc i)) (λ i. g (suc i)) n (λ i l. h (suc i) (omega arith)))
+-- Lists by what stands at their places
 
 pub or-zero : (s : List ℕ) (i : ℕ) → orZero s i ≡ getD s i 0
 unfolding orZero
 or-zero s i = refl
-
--- the first m and the k after them
-pub list-join : (f : ℕ → ℕ) (m k : ℕ) → listOf f (m + k) ≡ listOf f m ++ listOf (λ i. f (m + i)) k
-unfolding listOf
-list-join f zero k = simp zero-add
-list-join f (suc m) k = simp suc-add (ap (λ (t : List ℕ). f 0 ∷ t) (list-join (λ i. f (suc i)) m k))
 
 -- a list is the list of what stands at its places
 pub list-self : (s : List ℕ) → listOf (orZero s) (length s) ≡ s

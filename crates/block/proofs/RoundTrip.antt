@@ -14,18 +14,19 @@ use lib.ListN.{length, getD, take, drop, List·getD-append, length-drop}
 use lib.Seq.{ext-getD, getD-append-add, getD-take, getD-drop, length-take-le}
 use borrow.Author.Tests.{lt-ltb, eq-eqb}
 use Rattle.lex.specs.Every.{every, oneIf}
+use Rattle.lex.specs.Lists.{listOf}
 use Rattle.lex.proofs.Every.{false-of, every-true, every-at}
+use Rattle.lex.proofs.Lists.{length-list, list-at}
 use Rattle.week.specs.declared.Numbers.{Numbers}
 use Rattle.week.specs.Rules.{bitOf, tieWord, together, wordOf}
 use Rattle.week.specs.Tables.{Week, week, lots, pairRules, refusal, admits, numbersOk, lengthsOk, wordsOk, bitOk, wordOk, pairOk, lotTiesOk, tiesOk}
 use Rattle.week.proofs.Words.{bit-zero}
 use Rattle.week.proofs.Tables.{Limits, accepted, Right, bit-read, goes-on, goes-off, passed-rest, passed-last}
 use Rattle.block.specs.Fnv.{fnv}
-use Rattle.block.specs.Parts.{Pair, listOf, byteOf, pairAt, pairNumber}
+use Rattle.block.specs.Parts.{Pair, byteOf, pairAt, pairNumber}
 use Rattle.block.specs.Content.{numberAt, pairWord, tableWord, contentSize, contentByte}
 use Rattle.block.specs.File.{blocks, bodyByte, body, blockOf, fileByte, fileOf}
 use Rattle.block.specs.Reading.{contentIn, wordIn, numbersIn, wordsAt, wordsIn, pairWordIn, pairBitIn, tieIn, tiesAt, tiesIn, weekOf, weekIn, byteIs, holds4, blockRefusal, blocksRefusal, fillsAt, fillingOk, fileRefusal}
-use Rattle.block.proofs.Parts.{length-list, list-at}
 use Rattle.block.proofs.Sizes.{size-words, size-some, blocks-small, blocks-some, blocks-hold}
 use Rattle.block.proofs.Content.{table-domain, table-loss, table-give, table-pair, pair-word, content-number, content-word, content-rest, body-number, body-content}
 use Rattle.block.proofs.File.{length-body}

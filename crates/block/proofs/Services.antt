@@ -8,8 +8,8 @@ use native.Mathlib.Omega.{arith}
 use lib.Dec.{eqb}
 use lib.ListN.{length, getD, set, take}
 use borrow.Author.Tests.{eq-eqb, ne-eqb}
-use Rattle.lex.specs.Padded.{padded}
-use Rattle.lex.proofs.Padded.{padded-take}
+use Rattle.lex.specs.Lists.{padded}
+use Rattle.lex.proofs.Lists.{padded-take}
 use Rattle.week.specs.Tables.{Week, lots, refusal, admits}
 use Rattle.week.proofs.Tables.{passed-rest}
 use Rattle.block.specs.File.{blocks, fileOf, Written, written, writeRefusal, writeOf}

@@ -13,15 +13,16 @@ use lib.Dec.{eqb}
 use lib.Pow.{pow-add, pow-pos}
 use borrow.Author.Tests.{lt-ltb, le-ltb}
 use Rattle.lex.specs.Every.{imp, every, oneIf}
-use Rattle.lex.specs.Padded.{padded}
+use Rattle.lex.specs.Lists.{listOf, padded}
 use Rattle.lex.proofs.Every.{not-both, same-truth, imp-in, every-true, every-at}
+use Rattle.lex.proofs.Lists.{length-list, list-at, list-beyond}
 use Rattle.week.specs.Rules.{Rules, rules, bitOf, inside, inDomain, tieWord, together, wordOf}
 use Rattle.week.specs.Tables.{bitOk, wordOk, pairOk, lotTiesOk, lotTiesHalf, tiesOk}
 use Rattle.week.proofs.Words.{bit-zero, inside-at, square-small}
 use Rattle.week.proofs.Tables.{Right, bit-read, bit-make, ties-half}
-use Rattle.block.specs.Parts.{listOf, pair, orZero, pairAt, pairNumber}
+use Rattle.block.specs.Parts.{pair, orZero, pairAt, pairNumber}
 use Rattle.block.specs.Reading.{wordIn, wordsAt, wordsIn, pairWordIn, pairBitIn, tieIn, tiesAt, tiesIn, tieHeld}
-use Rattle.block.proofs.Parts.{length-list, list-at, list-beyond, list-padded}
+use Rattle.block.proofs.Parts.{list-padded}
 use Rattle.block.proofs.Checks.{word-small}
 use Rattle.block.proofs.Pairs.{pair-of-number, number-below, IsPair, is-pair}
 

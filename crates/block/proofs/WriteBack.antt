@@ -9,15 +9,17 @@ use native.Mathlib.Omega.{arith}
 use lib.ListN.{length, getD, take, drop, length-drop}
 use lib.Seq.{ext-getD, getD-take, getD-drop, length-take-le}
 use borrow.Author.Tests.{eqb-true}
+use Rattle.lex.specs.Lists.{listOf}
 use Rattle.lex.proofs.Every.{every-at}
+use Rattle.lex.proofs.Lists.{length-list, list-at}
 use Rattle.week.specs.Tables.{Week, refusal}
 use Rattle.week.proofs.Tables.{passed-first, passed-rest, passed-last}
 use Rattle.block.specs.Fnv.{fnv}
-use Rattle.block.specs.Parts.{listOf, byteOf, pairAt}
+use Rattle.block.specs.Parts.{byteOf, pairAt}
 use Rattle.block.specs.Content.{numberAt, pairWord, tableWord, contentSize, contentByte}
 use Rattle.block.specs.File.{blocks, bodyByte, body, blockOf, fileByte, fileOf}
 use Rattle.block.specs.Reading.{contentIn, wordIn, numbersIn, wordsIn, pairWordIn, weekOf, weekIn, byteIs, holds4, blockRefusal, fillsAt, fillingOk, fileRefusal}
-use Rattle.block.proofs.Parts.{length-list, list-at, or-zero}
+use Rattle.block.proofs.Parts.{or-zero}
 use Rattle.block.proofs.Sizes.{size-words}
 use Rattle.block.proofs.Content.{table-domain, table-loss, table-give, table-pair, content-number, content-word, content-rest, body-number, body-content}
 use Rattle.block.proofs.Checks.{blocks-each, lot-inside}

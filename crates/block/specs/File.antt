@@ -5,9 +5,10 @@ use mathlib.Core.List.{List, _++_}
 use Prim.Native.Nat.{ℕ, _+_, _*_, _-_, _/_, _%_}
 use lib.Dec.{eqb, ltb}
 use lib.ListN.{length, getD}
+use Rattle.lex.specs.Lists.{listOf}
 use Rattle.week.specs.Tables.{Week, lots, admits}
 use Rattle.block.specs.Fnv.{fnv}
-use Rattle.block.specs.Parts.{listOf, byteOf}
+use Rattle.block.specs.Parts.{byteOf}
 use Rattle.block.specs.Content.{contentSize, contentByte}
 
 -- how many blocks n lots need, 504 bytes of content in each

@@ -1,15 +1,10 @@
--- What a file is put together from: lists by position, numbers in bytes, and pairs of lots by number.
+-- What a file is put together from: what stands at a place, numbers in bytes, and pairs of lots by number.
 -- Assumes nothing.
 use mathlib.Core.Bool.{cond}
-use mathlib.Core.List.{List, [], _∷_}
+use mathlib.Core.List.{List}
 use Prim.Native.Nat.{ℕ, zero, suc, _+_, _*_, _-_, _/_, _%_, _^_}
 use lib.Dec.{ltb}
 use lib.ListN.{getD}
-
--- f 0, f 1 .. f (n - 1)
-unfoldable pub listOf : (ℕ → ℕ) → ℕ → List ℕ
-listOf f zero = []
-listOf f (suc n) = f 0 ∷ listOf (λ i. f (suc i)) n
 
 -- what stands at a place of a list; 0 beyond its end
 unfoldable pub orZero : List ℕ → ℕ → ℕ

@@ -6,13 +6,13 @@ use Prim.Native.Nat.{ℕ, zero, suc, _+_, _*_, _-_, _/_, _%_}
 use lib.Dec.{eqb, ltb, leb}
 use lib.ListN.{length, getD, take, drop}
 use Rattle.lex.specs.Every.{all, every}
-use Rattle.lex.specs.Padded.{padded}
+use Rattle.lex.specs.Lists.{listOf, padded}
 use Rattle.week.specs.declared.Numbers.{Numbers}
 use Rattle.week.specs.Refusal.{unless, orElse}
 use Rattle.week.specs.Rules.{bitOf, inside, wordOf}
 use Rattle.week.specs.Tables.{Week, week, lots, pairRules, numbersOk, wordsOk, tiesOk}
 use Rattle.block.specs.Fnv.{fnv}
-use Rattle.block.specs.Parts.{listOf, byteOf, pairAt, pairNumber}
+use Rattle.block.specs.Parts.{byteOf, pairAt, pairNumber}
 use Rattle.block.specs.Content.{contentSize}
 use Rattle.block.specs.File.{blocks}
 

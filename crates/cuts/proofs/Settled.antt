@@ -2,15 +2,16 @@
 -- any lot that has to move, decides whether there is a partial repair. Assumes nothing.
 use mathlib.Core.Path.{_≡_, refl, sym, _∙_, ap}
 use mathlib.Core.Bool.{Bool, true, false, _&&_, cond}
-use mathlib.Core.List.{List, [], _∷_, _++_}
-use Prim.Native.Nat.{ℕ, zero, suc, _≤_, _<_}
+use mathlib.Core.List.{List}
+use Prim.Native.Nat.{ℕ, _≤_, _<_}
 use native.Mathlib.Decide.{decLt}
 use native.Mathlib.Omega.{arith}
 use lib.ListN.{length, getD, set}
-use lib.Seq.{getD-at}
 use borrow.Author.Tests.{lt-ltb, le-ltb}
+use Rattle.lex.specs.Lists.{listOf}
 use Rattle.lex.proofs.Dictionary.{under-all}
-use Rattle.lex.proofs.Every.{both, and-left, and-right, false-of, not-both, same-truth, length-snoc, snoc-before}
+use Rattle.lex.proofs.Every.{both, and-left, and-right, false-of, not-both, same-truth}
+use Rattle.lex.proofs.Lists.{length-list, list-at}
 use Rattle.week.specs.Rules.{Rules, together}
 use Rattle.week.proofs.Rules.{Symmetric, domain-below}
 use Rattle.repair.specs.Repair.{Case, isLost, moves}
@@ -22,24 +23,6 @@ use Rattle.cuts.specs.Moves.{calm, uses, may, Settled}
 use Rattle.cuts.proofs.Cut.{KeepsOn, keepsOn-make, count-fewer, MendsOn, mendsOn-make, mended-read, mended-make}
 use Rattle.cuts.proofs.Hopes.{suits-read}
 use Rattle.cuts.proofs.Moves.{stays, still, sound-decided, uses-decided, at-rest, Lands, lands-read, sound-at, few-uses, may-needed}
-
--- the list of f 0, f 1 and so on, n numbers
-listOf : (ℕ → ℕ) → ℕ → List ℕ
-listOf f zero = []
-listOf f (suc n) = listOf f n ++ f n ∷ []
-
-length-listOf : (f : ℕ → ℕ) (n : ℕ) → length (listOf f n) ≡ n
-unfolding listOf
-length-listOf f zero = refl
-length-listOf f (suc n) = length-snoc (listOf f n) (f n) ∙ ap suc (length-listOf f n)
-
-listOf-at : (f : ℕ → ℕ) (n i : ℕ) → i < n → getD (listOf f n) i 0 ≡ f i
-unfolding listOf
-listOf-at f zero i h = absurd (omega arith)
-listOf-at f (suc n) i h = elim (decLt i n) [
-  | yes g ↦ snoc-before (listOf f n) (f n) i (rw length-listOf g) ∙ listOf-at f n i g
-  | no g ↦ let e : i ≡ n = omega arith in rw e (getD-at (listOf f n) (f n) [] 0 n (length-listOf f n))
-]
 
 -- where lot p goes; 0 where it is not on
 unfoldable to : Case → List ℕ → ℕ → ℕ
@@ -102,10 +85,10 @@ module _ (R : Rules) (C : Case) (on : ℕ → Bool) (mirror : Symmetric R) (stan
   goal = listOf (to C m) (R .lots)
 
   abbrev at : (p : ℕ) → p < R .lots → getD goal p 0 ≡ to C m p
-  at p l = listOf-at (to C m) (R .lots) p l
+  at p l = list-at (to C m) (R .lots) p l
 
   long : length goal ≡ R .lots
-  long = length-listOf (to C m) (R .lots)
+  long = length-list (to C m) (R .lots)
 
   in-week : {p : ℕ} → p < length goal → p < R .lots
   in-week {p} l = rw long at l

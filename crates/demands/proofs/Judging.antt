@@ -7,8 +7,10 @@ use Prim.Native.Nat.{ℕ, _≤_, _<_}
 use native.Mathlib.Omega.{arith}
 use lib.ListN.{length, getD}
 use borrow.Author.Tests.{eq-eqb}
-use Rattle.lex.specs.Every.{every, same, someOf}
-use Rattle.lex.proofs.Every.{every-true, every-at, same-eq, same-self, both, false-of, not-both}
+use Rattle.lex.specs.Every.{every, someOf}
+use Rattle.lex.specs.Lists.{same}
+use Rattle.lex.proofs.Every.{every-true, every-at, both, false-of, not-both}
+use Rattle.lex.proofs.Lists.{same-eq, same-self}
 use Rattle.week.specs.Refusal.{unless, orElse}
 use Rattle.week.specs.Rules.{keeps}
 use Rattle.week.specs.Tables.{Week, lots, pairRules, refusal, admits}

@@ -10,8 +10,10 @@ use native.Mathlib.Nat.{eq-or-lt-of-le}
 use lib.Dec.{eqb}
 use lib.ListN.{length, getD}
 use borrow.Author.Tests.{eqb-true}
-use Rattle.lex.specs.Every.{every, everyOf, same}
-use Rattle.lex.proofs.Every.{both, and-left, and-right, every-true, every-at, everyOf-append, same-eq, same-self}
+use Rattle.lex.specs.Every.{every, everyOf}
+use Rattle.lex.specs.Lists.{same}
+use Rattle.lex.proofs.Every.{both, and-left, and-right, every-true, every-at, everyOf-append}
+use Rattle.lex.proofs.Lists.{same-eq, same-self}
 use Rattle.repair.specs.Break.{lotsFrom, single, pair, singles, pairsOf, pairs, lostSets, lostOk, place, rowNumber, rowCount}
 use Rattle.repair.proofs.Rows.{row-below}
 use Rattle.robust.proofs.Rows.{every-row, set-fewer, count-most}

@@ -10,9 +10,9 @@ use lib.Dec.{eqb}
 use lib.ListN.{length, take, drop, replicate, length-take, length-drop, drop-of-length-le}
 use lib.Seq.{length-take-le, take-all, sets, sets-eq}
 use borrow.Author.Tests.{eqb-true, eq-eqb, ne-eqb}
-use Rattle.lex.specs.Padded.{padded}
+use Rattle.lex.specs.Lists.{padded}
 use Rattle.lex.proofs.Every.{and-left}
-use Rattle.lex.proofs.Padded.{padded-length}
+use Rattle.lex.proofs.Lists.{padded-length}
 use Rattle.week.specs.declared.Numbers.{Numbers}
 use Rattle.week.specs.Refusal.{unless, orElse}
 use Rattle.week.specs.Tables.{Week, lots, pairRules, admits, joined, numbersOk, lengthsOk, wordsOk, tiesOk}

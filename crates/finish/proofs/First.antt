@@ -12,7 +12,7 @@ use lib.Dec.{eqb}
 use lib.ListN.{length, getD, set, take, drop, replicate, length-set, take-append-drop}
 use lib.Seq.{getD-take, take-suc-set, drop-set-lt, length-take-le}
 use borrow.Author.Tests.{not-true}
-use Rattle.lex.specs.Padded.{padded}
+use Rattle.lex.specs.Lists.{padded}
 use Rattle.lex.proofs.Every.{and-left, each, every-true, every-at}
 use Rattle.week.specs.Rules.{bitOf}
 use Rattle.week.specs.Tables.{Week, lots, pairRules, refusal, lotTests, lotOk, lotOkAt, wordsOk}

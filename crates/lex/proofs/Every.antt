@@ -8,10 +8,8 @@ use Prim.Native.Nat.{ℕ, zero, suc, _+_, _≤_, _<_}
 use native.Mathlib.Omega.{arith}
 use native.Mathlib.Numerals.{add-one}
 use native.Mathlib.Nat.{eq-or-lt-of-le, le-of-suc-le-suc}
-use lib.Dec.{eqb}
 use lib.ListN.{getD, length, length-append, List·getD-append}
-use borrow.Author.Tests.{eqb-true, eq-eqb, ne-eqb}
-use Rattle.lex.specs.Every.{imp, all, Each, every, oneIf, count, everyOf, same, sameAt}
+use Rattle.lex.specs.Every.{imp, all, Each, every, oneIf, count, everyOf}
 
 -- Bools
 
@@ -136,43 +134,6 @@ pub everyOf-imp {ℓ} : {A : Type ℓ} (f g : A → Bool) (l : List A) → ((a :
 unfolding everyOf
 everyOf-imp f g [] h e = refl
 everyOf-imp f g (a ∷ l) h e = both (h a (and-left (f a) (everyOf f l) e)) (everyOf-imp f g l h (and-right (f a) (everyOf f l) e))
-
--- Lists that are one
-
-pub same-eq : (s t : List ℕ) → same s t ≡ true → s ≡ t
-unfolding same
-same-eq [] [] e = refl
-same-eq [] (y ∷ t) e = absurd (true≢false (sym e))
-same-eq (x ∷ s) [] e = absurd (true≢false (sym e))
-same-eq (x ∷ s) (y ∷ t) e = ap₂ (λ (n : ℕ) (l : List ℕ). n ∷ l) (eqb-true x y (and-left (eqb x y) (same s t) e)) (same-eq s t (and-right (eqb x y) (same s t) e))
-
-pub same-self : (s : List ℕ) → same s s ≡ true
-unfolding same
-same-self [] = refl
-same-self (x ∷ s) = both (eq-eqb x x refl) (same-self s)
-
--- a place where they have the same number, and one where they have not
-pub same-here : (s t : List ℕ) (i x y : ℕ) → x ≡ getD s i 0 → y ≡ getD t i 0 → x ≡ y → sameAt s t i ≡ true
-unfolding sameAt
-same-here s t i x y e f h = eq-eqb (getD s i 0) (getD t i 0) (sym e ∙ h ∙ f)
-
-pub differ-here : (s t : List ℕ) (i x y : ℕ) → x ≡ getD s i 0 → y ≡ getD t i 0 → (x ≡ y → ⊥) → sameAt s t i ≡ false
-unfolding sameAt
-differ-here s t i x y e f h = ne-eqb (getD s i 0) (getD t i 0) (λ z. h (e ∙ z ∙ sym f))
-
--- lists of one length, place by place
-pub same-places : (s t : List ℕ) → length s ≡ length t → every (sameAt s t) (length t) ≡ same s t
-unfolding same sameAt
-same-places s t h = same-truth (every (sameAt s t) (length t)) (same s t) (λ e. there s t h (λ i l. every-at (sameAt s t) (length t) i e l)) (λ e. rw (same-eq s t e) (every-true (sameAt t t) (length t) (λ i l. here t i)))
-  where
-    here : (t : List ℕ) (i : ℕ) → sameAt t t i ≡ true
-    here t i = eq-eqb (getD t i 0) (getD t i 0) refl
-
-    there : (s t : List ℕ) → length s ≡ length t → ((i : ℕ) → i < length t → sameAt s t i ≡ true) → same s t ≡ true
-    there [] [] h f = refl
-    there [] (y ∷ t) h f = absurd (omega arith)
-    there (x ∷ s) [] h f = absurd (omega arith)
-    there (x ∷ s) (y ∷ t) h f = both (f 0 (omega arith)) (there s t (omega arith) (λ i l. f (suc i) (omega arith)))
 
 -- Tests of a list that go place by place
 

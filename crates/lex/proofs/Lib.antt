@@ -1,7 +1,7 @@
 pub mod Dictionary
 pub mod Every
 pub mod First
-pub mod Padded
+pub mod Lists
 pub mod Scan
 pub mod Search
 pub mod Turn

@@ -11,7 +11,7 @@ use native.Mathlib.Omega.{arith}
 use lib.ListN.{length, getD, take, drop, set, replicate, length-set, length-replicate, take-append-drop}
 use lib.Seq.{take-suc, take-suc-set, take-set-le, drop-set-lt, getD-take, length-take-le}
 use Rattle.lex.specs.Dictionary.{Meets}
-use Rattle.lex.specs.Padded.{padded}
+use Rattle.lex.specs.Lists.{padded}
 use Rattle.lex.specs.Scan.{scanFrom}
 use Rattle.lex.proofs.Scan.{Picked, scan-picked}
 use Rattle.lex.proofs.Search.{Space, Reached, reach-start, reach-skip, reach-deeper, reach-back, reach-none, reach-found, reach-reject, left, left-deeper, left-back, left-skip, left-set}

@@ -1,11 +1,9 @@
--- A test of every number below a bound, how many numbers pass it, and the same for the members of a list; lists that are one.
+-- A test of every number below a bound, how many numbers pass it, and the same for the members of a list.
 -- Assumes nothing.
 use mathlib.Core.Path.{_≡_}
 use mathlib.Core.Bool.{Bool, true, false, _&&_, _||_, not}
 use mathlib.Core.List.{List, [], _∷_}
 use Prim.Native.Nat.{ℕ, zero, suc, _+_}
-use lib.Dec.{eqb}
-use lib.ListN.{getD}
 
 -- where a holds, b does
 abbrev pub imp : Bool → Bool → Bool
@@ -43,14 +41,3 @@ everyOf f (a ∷ l) = f a && everyOf f l
 unfoldable pub someOf {ℓ} : {A : Type ℓ} → (A → Bool) → List A → Bool
 someOf f [] = false
 someOf f (a ∷ l) = f a || someOf f l
-
--- two lists of numbers are one
-unfoldable pub same : List ℕ → List ℕ → Bool
-same [] [] = true
-same [] (y ∷ t) = false
-same (x ∷ s) [] = false
-same (x ∷ s) (y ∷ t) = eqb x y && same s t
-
--- they have the same number at a place
-unfoldable pub sameAt : List ℕ → List ℕ → ℕ → Bool
-sameAt s t i = eqb (getD s i 0) (getD t i 0)

@@ -1,5 +1,5 @@
 pub mod Dictionary
 pub mod Every
 pub mod First
-pub mod Padded
+pub mod Lists
 pub mod Scan

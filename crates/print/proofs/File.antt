@@ -12,8 +12,8 @@ use lib.ListN.{length, take, replicate}
 use lib.Seq.{take-all}
 use borrow.Author.Tests.{eq-eqb, ne-eqb}
 use Rattle.lex.specs.First.{isFound, orOld}
-use Rattle.lex.specs.Padded.{padded}
-use Rattle.lex.proofs.Padded.{padded-length, padded-take}
+use Rattle.lex.specs.Lists.{padded}
+use Rattle.lex.proofs.Lists.{padded-length, padded-take}
 use Rattle.week.specs.declared.Numbers.{Numbers}
 use Rattle.week.specs.Refusal.{unless}
 use Rattle.week.specs.Tables.{Week, week, lots, refusal}

@@ -7,7 +7,7 @@ use Prim.Native.Nat.{ℕ, _+_, _/_, _%_}
 use lib.Dec.{eqb, ltb}
 use lib.ListN.{length}
 use Rattle.lex.specs.First.{isFound, orOld}
-use Rattle.lex.specs.Padded.{padded}
+use Rattle.lex.specs.Lists.{padded}
 use Rattle.week.specs.Refusal.{unless, orElse}
 use Rattle.week.specs.Tables.{Week}
 use Rattle.robust.specs.Super.{rowSets, firstSuper, rowOf}

@@ -15,11 +15,11 @@ use borrow.Author.Tests.{leb-true, le-leb, eqb-true}
 use Rattle.lex.specs.Dictionary.{Meets}
 use Rattle.lex.specs.Every.{every, count, oneIf, someOf}
 use Rattle.lex.specs.First.{Passes, always, isFound, orOld}
-use Rattle.lex.specs.Padded.{padded}
+use Rattle.lex.specs.Lists.{padded}
 use Rattle.lex.proofs.Dictionary.{under-all}
 use Rattle.lex.proofs.Every.{both, and-left, and-right, count-cong, Snoc, Closed, every-snoc, count-snoc, snoc-closed, snoc-link, snoc-and}
 use Rattle.lex.proofs.First.{first-meets, first-is, first-same, first-some}
-use Rattle.lex.proofs.Padded.{padded-wide, padded-take}
+use Rattle.lex.proofs.Lists.{padded-wide, padded-take}
 use Rattle.lex.proofs.Search.{Space, passes-space}
 use Rattle.week.specs.Rules.{Rules, keeps, fits, keepsHalf}
 use Rattle.week.proofs.Rules.{keeps-closed, keeps-below, fits-cong, half-snoc as keeps-snoc, half-below, Symmetric, keeps-half}

@@ -7,7 +7,8 @@ use Prim.Native.Nat.{ℕ, _+_, _-_, _*_, _/_, _≤_, _<_}
 use native.Mathlib.Omega.{arith}
 use lib.Dec.{eqb, ltb}
 use borrow.Author.Tests.{eqb-true, ltb-true}
-use Rattle.lex.specs.Every.{every, same}
+use Rattle.lex.specs.Every.{every}
+use Rattle.lex.specs.Lists.{same}
 use Rattle.lex.proofs.Every.{and-left, and-right, every-at}
 use Rattle.repair.specs.Break.{lotsFrom, single, pair, singles, pairsOf, pairs, lostSets, place, rowNumber, rowCount}
 

@@ -5,7 +5,8 @@ use mathlib.Core.List.{List, [], _∷_, _++_, map, flatMap}
 use Prim.Native.Nat.{ℕ, zero, suc, _+_, _-_, _*_, _≤_, _<_}
 use lib.Dec.{ltb, leb}
 use lib.ListN.{length, getD, take, drop}
-use Rattle.lex.specs.Every.{all, every, everyOf, same}
+use Rattle.lex.specs.Every.{all, every, everyOf}
+use Rattle.lex.specs.Lists.{same}
 use Rattle.week.specs.Rules.{bitOf}
 
 -- the k lots from p on

@@ -7,7 +7,7 @@ use mathlib.Core.Option.{Option}
 use Prim.Native.Nat.{ℕ}
 use lib.Dec.{eqb}
 use Rattle.lex.specs.First.{isFound, orOld}
-use Rattle.lex.specs.Padded.{padded}
+use Rattle.lex.specs.Lists.{padded}
 use Rattle.repair.specs.Break.{single, pair}
 use Rattle.repair.specs.declared.Lost.{Lost}
 use Rattle.repair.specs.declared.Found.{Found}

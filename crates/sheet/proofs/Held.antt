@@ -11,7 +11,7 @@ use lib.Seq.{take-all, length-take-le}
 use borrow.Author.Tests.{leb-true, le-leb, eqb-true, eqb-false}
 use Rattle.lex.specs.Every.{everyOf}
 use Rattle.lex.proofs.Every.{and-right, every-true, every-at}
-use Rattle.lex.proofs.Padded.{padded-length, padded-take}
+use Rattle.lex.proofs.Lists.{padded-length, padded-take}
 use Rattle.week.specs.Rules.{keeps}
 use Rattle.week.specs.Refusal.{unless}
 use Rattle.week.specs.Tables.{Week, lots, pairRules, refusal, admits}

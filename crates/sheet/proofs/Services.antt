@@ -11,7 +11,7 @@ use lib.Dec.{eqb, ltb, leb}
 use lib.ListN.{length, getD, set, take, replicate, length-take}
 use lib.Seq.{length-take-le, set-append-seam, take-suc, take-all}
 use borrow.Author.Tests.{leb-true, le-leb, lt-leb, lt-ltb, ltb-true, le-ltb, eqb-true, eq-eqb, ne-eqb}
-use Rattle.lex.specs.Padded.{padded}
+use Rattle.lex.specs.Lists.{padded}
 use Rattle.lex.proofs.Every.{false-of, each, each-all}
 use Rattle.week.specs.Refusal.{unless, orElse}
 use Rattle.week.specs.Rules.{Rules, keeps, keepsHalf}

@@ -6,7 +6,7 @@ use Prim.Native.Nat.{ℕ, _+_}
 use lib.Dec.{eqb, ltb, leb}
 use lib.ListN.{length, getD, take, replicate}
 use Rattle.lex.specs.Every.{all, every, everyOf}
-use Rattle.lex.specs.Padded.{padded}
+use Rattle.lex.specs.Lists.{padded}
 use Rattle.week.specs.Refusal.{unless, orElse}
 use Rattle.week.specs.Rules.{Rules, keeps}
 use Rattle.week.specs.Tables.{Week, lots, pairRules, refusal, admits}

@@ -4,7 +4,7 @@ ghost use mathlib.Core.Bool.{true};
 ghost use Prim.Native.Nat.{_≤_, _<_};
 ghost use lib.ListN.{length, getD, set, take, drop};
 ghost use Rattle.lex.specs.Every.{everyOf};
-ghost use Rattle.lex.specs.Padded.{padded};
+ghost use Rattle.lex.specs.Lists.{padded};
 ghost use Rattle.week.specs.Rules.{rules};
 ghost use Rattle.week.specs.Tables.{week, tiesOk};
 ghost use Rattle.sheet.specs.Moves.{move, movesOf, names, moveOk, once, movesOk, freshAt, freshLot, fresh, stirs, placedAll, markedAll};

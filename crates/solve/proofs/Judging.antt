@@ -8,7 +8,8 @@ use native.Mathlib.Omega.{arith}
 use native.Mathlib.Decide.{decLt}
 use lib.ListN.{length, getD, take, drop}
 use borrow.Author.Tests.{eq-eqb, ne-eqb, not-true, not-false}
-use Rattle.lex.specs.Every.{every, same}
+use Rattle.lex.specs.Every.{every}
+use Rattle.lex.specs.Lists.{same}
 use Rattle.lex.specs.Scan.{scanFrom}
 use Rattle.lex.proofs.Every.{not-both, every-true, every-false}
 use Rattle.lex.proofs.Scan.{Picked, scan-picked}

@@ -12,7 +12,7 @@ use borrow.Rule.Slice.PartMut.{putMid, same-len-mid}
 use lib.ListN.{length, getD, take, drop, length-append, length-drop}
 use lib.Seq.{take-all, take-suc, take-length, length-take-le, take-at}
 use Rattle.lex.specs.First.{isFound, orOld}
-use Rattle.lex.specs.Padded.{padded}
+use Rattle.lex.specs.Lists.{padded}
 use Rattle.week.specs.Tables.{Week, lots, pairRules, refusal}
 use Rattle.week.proofs.Tables.{accepted}
 use Rattle.repair.specs.Break.{breaks, rowCount}

@@ -6,7 +6,8 @@ use mathlib.Core.List.{List, []}
 use Prim.Native.Nat.{ℕ}
 use lib.Dec.{eqb}
 use lib.ListN.{getD}
-use Rattle.lex.specs.Every.{every, same}
+use Rattle.lex.specs.Every.{every}
+use Rattle.lex.specs.Lists.{same}
 use Rattle.lex.specs.Scan.{scanFrom}
 use Rattle.week.specs.Refusal.{unless, orElse}
 use Rattle.week.specs.Rules.{keeps}

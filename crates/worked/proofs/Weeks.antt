@@ -3,9 +3,9 @@
 use mathlib.Core.Path.{_≡_, refl}
 use mathlib.Core.Bool.{true}
 use mathlib.Core.List.{flatMap}
-use Rattle.lex.specs.Every.{every, count, everyOf, someOf, same}
+use Rattle.lex.specs.Every.{every, count, everyOf, someOf}
 use Rattle.lex.specs.First.{first, within, tryFrom}
-use Rattle.lex.specs.Padded.{padded}
+use Rattle.lex.specs.Lists.{padded, same}
 use Rattle.week.specs.Rules.{bitOf, wordOf, inside, inDomain, tieWord, together, slotStands, pairStands, lotStands, keeps, free, tied}
 use Rattle.week.specs.Tables.{numbersOk, lengthsOk, lotOk, lotOkAt, wordsOk, bitOk, wordOk, pairOk, lotTiesOk, tiesOk, admits}
 use Rattle.repair.specs.Break.{lotsFrom, single, pair, singles, pairsOf, pairs, lostSets, breaks}

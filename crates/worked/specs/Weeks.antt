@@ -6,7 +6,8 @@ use mathlib.Core.Option.{Option, none, some}
 use Prim.Native.Nat.{ℕ, zero, suc}
 use lib.Dec.{eqb, leb}
 use lib.ListN.{getD}
-use Rattle.lex.specs.Every.{everyOf, same}
+use Rattle.lex.specs.Every.{everyOf}
+use Rattle.lex.specs.Lists.{same}
 use Rattle.week.specs.declared.Numbers.{Numbers}
 use Rattle.week.specs.Rules.{bitOf, wordOf}
 use Rattle.week.specs.Tables.{Week, week, refusal}

@@ -7,8 +7,8 @@ use native.Mathlib.Omega.{arith}
 use lib.ListN.{length, drop}
 use borrow.Rule.Slice.PartMut.{mid-len}
 use borrow.Author.Needs.{needs}
+use Rattle.lex.specs.Lists.{listOf}
 use Rattle.week.specs.Tables.{Week, week}
-use Rattle.block.specs.Parts.{listOf}
 use Rattle.block.specs.File.{blocks, fileByte, fileOf}
 use Rattle.block.proofs.Parts.{store-none, store-length, store-end}
 use Rattle.block.proofs.File.{blocks-more}

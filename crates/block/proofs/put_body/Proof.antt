@@ -6,8 +6,8 @@ use Prim.Native.Nat.{_≤_, _-_}
 use native.Mathlib.Omega.{arith}
 use lib.ListN.{length, drop, length-set}
 use borrow.Author.Needs.{needs}
+use Rattle.lex.specs.Lists.{listOf}
 use Rattle.week.specs.Tables.{week}
-use Rattle.block.specs.Parts.{listOf}
 use Rattle.block.specs.File.{bodyByte, body}
 use Rattle.block.proofs.Parts.{store-none, store-more, store-stop}
 use Rattle.block.proofs.put_body.Statement.{statement}

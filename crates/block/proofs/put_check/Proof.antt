@@ -6,7 +6,8 @@ use Prim.Native.Nat.{_≤_, _-_}
 use native.Mathlib.Omega.{arith}
 use lib.ListN.{length, drop, take, length-set}
 use borrow.Author.Needs.{needs}
-use Rattle.block.specs.Parts.{listOf, byteOf}
+use Rattle.lex.specs.Lists.{listOf}
+use Rattle.block.specs.Parts.{byteOf}
 use Rattle.block.proofs.Parts.{behind-none, behind-more, behind-end}
 use Rattle.block.proofs.put_check.Statement.{statement}
 use Rattle.block.proofs.put_check.Tie as tie

@@ -6,7 +6,7 @@ use Prim.Native.Nat.{_-_, _≤_}
 use native.Mathlib.Omega.{arith}
 use borrow.Author.Needs.{needs}
 use borrow.Author.Tests.{not-true, not-false}
-use Rattle.lex.specs.Padded.{padded}
+use Rattle.lex.specs.Lists.{padded}
 use Rattle.week.specs.Tables.{Week, week}
 use Rattle.week.proofs.Tables.{accepted}
 use Rattle.finish.proofs.First.{next-start, first-none, Outer, outer-start, outer-known, outer-next, outer-step, outer-found, outer-padded}

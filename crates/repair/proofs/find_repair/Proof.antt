@@ -5,7 +5,7 @@ use native.Mathlib.Omega.{arith}
 use lib.ListN.{take, set}
 use borrow.Author.Needs.{needs}
 use Rattle.lex.specs.First.{Passes, always}
-use Rattle.lex.specs.Padded.{padded}
+use Rattle.lex.specs.Lists.{padded}
 use Rattle.lex.proofs.Search.{left}
 use Rattle.lex.proofs.Turn.{State, Turn, state-start, turn-deeper, turn-deeper-less, turn-full, turn-padded, turn-good, turn-found, turn-last, turn-back, turn-back-less, turn-none}
 use Rattle.week.specs.Rules.{Rules, rules}

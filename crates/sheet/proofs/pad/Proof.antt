@@ -5,7 +5,7 @@ use Prim.Native.Nat.{ℕ, _≤_, _-_}
 use native.Mathlib.Omega.{arith}
 use lib.ListN.{set, take}
 use borrow.Author.Needs.{needs}
-use Rattle.lex.specs.Padded.{padded}
+use Rattle.lex.specs.Lists.{padded}
 use Rattle.sheet.proofs.Services.{pad-none, pad-more}
 use Rattle.sheet.proofs.pad.Statement.{statement}
 use Rattle.sheet.proofs.pad.Tie as tie

@@ -6,8 +6,10 @@ use Prim.Native.Nat.{_-_, _≤_}
 use native.Mathlib.Omega.{arith}
 use lib.ListN.{length}
 use borrow.Author.Needs.{needs}
-use Rattle.lex.specs.Every.{every, sameAt}
-use Rattle.lex.proofs.Every.{every-none, every-step, every-false, every-end, same-here, differ-here, same-places}
+use Rattle.lex.specs.Every.{every}
+use Rattle.lex.specs.Lists.{sameAt}
+use Rattle.lex.proofs.Every.{every-none, every-step, every-false, every-end}
+use Rattle.lex.proofs.Lists.{same-here, differ-here, same-places}
 use Rattle.solve.proofs.is_order.Statement.{statement}
 use Rattle.solve.proofs.is_order.Tie as tie
 
