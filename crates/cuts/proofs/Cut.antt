@@ -13,7 +13,7 @@ use lib.ListN.{length, getD}
 use borrow.Author.Tests.{ltb-true, lt-ltb, leb-true, le-leb, eqb-true, eqb-false, ne-eqb}
 use Rattle.lex.specs.Every.{imp, every, oneIf, count, everyOf}
 use Rattle.lex.specs.First.{first, always, isFound}
-use Rattle.lex.proofs.Every.{both, and-left, and-right, imp-in, imp-out, every-true, every-at, everyOf-append, Closed, length-snoc, snoc-before}
+use Rattle.lex.proofs.Every.{both, and-left, and-right, or-other, imp-in, imp-out, every-true, every-at, everyOf-append, Closed, length-snoc, snoc-before}
 use Rattle.lex.proofs.First.{first-some, first-none}
 use Rattle.week.specs.declared.Numbers.{Numbers}
 use Rattle.week.specs.Rules.{Rules, bitOf, inDomain, together, slotStands, pairStands, lotStands, keeps}
@@ -73,11 +73,8 @@ module _ (R : Rules) (on : ℕ → Bool) (s : List ℕ) where
   unfolding keepsOn lotStandsOn slotStands pairStands
   keepsOn-read e = record {
     domain = λ p l o. imp-out (on p) (slotStands R s p) (every-at slotOn (length s) p (and-left (every slotOn (length s)) (every (lotStandsOn R on s) (length s)) e) l) o;
-    pairs = λ p q l m o u h. other (ne-eqb p q h) (imp-out (on q) (pairStands R s p q) (every-at (pairOn p) (length s) q (imp-out (on p) (every (pairOn p) (length s)) (every-at (lotStandsOn R on s) (length s) p (and-right (every slotOn (length s)) (every (lotStandsOn R on s) (length s)) e) l) o) m) u);
+    pairs = λ p q l m o u h. or-other (ne-eqb p q h) (imp-out (on q) (pairStands R s p q) (every-at (pairOn p) (length s) q (imp-out (on p) (every (pairOn p) (length s)) (every-at (lotStandsOn R on s) (length s) p (and-right (every slotOn (length s)) (every (lotStandsOn R on s) (length s)) e) l) o) m) u);
   }
-    where
-      other : {a b : Bool} → a ≡ false → (a || b) ≡ true → b ≡ true
-      other {a} {b} e f = rw e at f
 
   pub keepsOn-make : KeepsOn R on (length s) s → keepsOn R on s ≡ true
   unfolding keepsOn lotStandsOn slotStands pairStands

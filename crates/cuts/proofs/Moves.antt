@@ -12,7 +12,7 @@ use lib.Seq.{getD-set-same}
 use borrow.Author.Tests.{lt-ltb, le-ltb, leb-true, le-leb, eq-eqb, ne-eqb, not-true, not-false}
 use Rattle.lex.specs.Every.{imp, every, count}
 use Rattle.lex.specs.Dictionary.{Under}
-use Rattle.lex.proofs.Every.{both, and-left, and-right, false-of, not-both, imp-in, imp-out, every-true, every-at}
+use Rattle.lex.proofs.Every.{both, and-left, and-right, false-of, not-both, or-neither, imp-in, imp-out, every-true, every-at}
 use Rattle.week.specs.Rules.{Rules, bitOf, inDomain}
 use Rattle.repair.specs.Repair.{Case, isLost, replaces, yields, helps, mayGo, moves}
 use Rattle.parts.specs.Part.{Extends, Needed}
@@ -75,11 +75,7 @@ module _ (R : Rules) (C : Case) (on : ℕ → Bool) (m : List ℕ) (p : ℕ) whe
     -- it does not have to move
     pub at-rest : hasTo R C on m p ≡ false → (isLost (C .lost) p ≡ false) × (calm R C on m p ≡ true)
     unfolding hasTo
-    at-rest e = go (isLost (C .lost) p) (calm R C on m p) (rw (le-ltb (getD m p 0) 16 h) at e)
-      where
-        go : (a b : Bool) → (a || not b) ≡ false → (a ≡ false) × (b ≡ true)
-        go true b f = absurd (not-both refl f)
-        go false b f = (refl, not-false b f)
+    at-rest e = let c = or-neither (isLost (C .lost) p) (not (calm R C on m p)) (rw (le-ltb (getD m p 0) 16 h) at e) in (c .0, not-false (calm R C on m p) (c .1))
 
 -- The parts of the test
 

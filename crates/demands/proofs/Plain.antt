@@ -8,7 +8,7 @@ use native.Mathlib.Omega.{arith}
 use lib.Dec.{eqb, leb, ltb}
 use borrow.Author.Tests.{leb-true, leb-false, ltb-true, ltb-false, eqb-true, eqb-false, not-true, not-false}
 use Rattle.lex.specs.Every.{imp, every}
-use Rattle.lex.proofs.Every.{both, and-left, and-right, not-both, same-truth, imp-out, every-at, every-true}
+use Rattle.lex.proofs.Every.{both, and-left, and-right, not-both, same-truth, imp-out, every-at, every-true, every-miss}
 use Rattle.week.proofs.Tables.{beq-same, same-beq}
 use Rattle.demands.specs.Readings.{Reads, _or_, _and_, AllBelow, SomeBelow}
 
@@ -93,20 +93,11 @@ same-reads a b = reading (Bool·beq a b) (beq-same a b) (λ e h. not-both (same-
 
 -- Loops
 
-some-fails : (f : ℕ → Bool) (n : ℕ) → every f n ≡ false → SomeBelow n (λ k. f k ≡ false)
-unfolding every
-some-fails f zero e = absurd (not-both refl e)
-some-fails f (suc n) e = go (some-fails f n) (every f n) refl e
-  where
-    go : (every f n ≡ false → SomeBelow n (λ k. f k ≡ false)) → (t : Bool) → every f n ≡ t → (t && f n) ≡ false → SomeBelow (suc n) (λ k. f k ≡ false)
-    go rest true g h = record { one = n; below = omega arith; is = h }
-    go rest false g h = let s = rest g in record { one = s .one; below = let l = s .below in omega arith; is = s .is }
-
 pub every-reads : {f : ℕ → Bool} {P N : ℕ → Type 0} (n : ℕ) → ((k : ℕ) → Reads (f k) (P k) (N k)) → Reads (every f n) (AllBelow n P) (SomeBelow n N)
 every-reads {f} n r =
     reading (every f n)
     (λ e k l. r k .passes .0 (every-at f n k e l))
-    (λ e. let s = some-fails f n e in record { one = s .one; below = s .below; is = r (s .one) .fails .0 (s .is) })
+    (λ e. let m = every-miss f n e in record { one = m .at; below = m .below; is = r (m .at) .fails .0 (m .fails) })
     (λ p s. clash (r (s .one)) (p (s .one) (s .below)) (s .is))
 
 -- a test of every number, the first apart

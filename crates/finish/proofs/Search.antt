@@ -1,7 +1,7 @@
 -- The search, way by way: a loss judged among the placed lots, a slot that is tried, the slots of one lot, and the least slots lot by lot.
 -- Assumes nothing.
 use mathlib.Core.Path.{_≡_, refl, sym, _∙_, ap, ap₂}
-use mathlib.Core.Bool.{Bool, true, false, _&&_, not}
+use mathlib.Core.Bool.{Bool, true, false, _&&_, not, and-self-left}
 use mathlib.Core.List.{List, []}
 use Prim.Native.Nat.{ℕ, _+_, _≤_, _<_}
 use native.Mathlib.Decide.{decLt}
@@ -44,12 +44,8 @@ breaks-placed : (loss s : List ℕ) (L : Lost) → breaks loss s (lotsOf L) ≡ 
 unfolding bitOf
 breaks-placed loss s L = rows.breaks-both loss s L ∙ ap₂ _&&_ (one (L .0 .0)) (one (L .1 .0)) ∙ sym (cut.breaks-both loss (placed 16 s) s L)
   where
-    twice : (a b : Bool) → (a && b) ≡ (a && (a && b))
-    twice true b = refl
-    twice false b = refl
-
     one : (p : ℕ) → bitOf (getD loss p 0) (getD s p 0) ≡ (placed 16 s p && bitOf (getD loss p 0) (getD s p 0))
-    one p = twice (ltb (getD s p 0) 16) _
+    one p = sym (and-self-left (ltb (getD s p 0) 16) _)
 
 -- no lot is decided, or placed
 blank-idle : (p : ℕ) → p < 24 → 16 ≤ getD (replicate 24 16) p 0

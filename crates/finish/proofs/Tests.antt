@@ -1,6 +1,6 @@
 -- The tests by forward words say what the tests of the cut week say. Assumes nothing.
 use mathlib.Core.Path.{_≡_, refl, sym, _∙_, ap, ap₂}
-use mathlib.Core.Bool.{Bool, true, false, _&&_, _||_, not, cond}
+use mathlib.Core.Bool.{Bool, true, false, _&&_, _||_, not, cond, and-assoc}
 use mathlib.Core.List.{List, []}
 use Prim.Native.Nat.{ℕ, _+_, _^_, _≤_, _<_}
 use native.Mathlib.Decide.{decLt, ℕ-discrete}
@@ -148,10 +148,6 @@ module _ (R : Rules) (s words : List ℕ) (f : Forward R s words) (narrow : (p :
   fed-lives e h = lives-word R s words f q l (narrow q l) h ∙ ap not (rw (le-ltb (getD s q 0) 16 h) at e)
 
 -- Repairs
-
-and-assoc : (a b c : Bool) → ((a && b) && c) ≡ (a && (b && c))
-and-assoc true b c = refl
-and-assoc false b c = refl
 
 and-same : (a b c : Bool) → (a ≡ true → b ≡ c) → (a && b) ≡ (a && c)
 and-same true b c h = h refl

@@ -1,7 +1,7 @@
 -- Laws of `every`, `count`, `everyOf` and of Bools; and tests of a list that go place by place: what one more number adds.
 -- Assumes nothing.
 use mathlib.Core.Path.{_≡_, refl, sym, _∙_, ap, ap₂}
-use mathlib.Core.Bool.{Bool, true, false, _&&_, and-false, true≢false}
+use mathlib.Core.Bool.{Bool, true, false, _&&_, _||_, and-false, and-assoc, true≢false}
 use mathlib.Core.Logic.{⊎-elim}
 use mathlib.Core.List.{List, [], _∷_, _++_, append-nil, append-assoc}
 use Prim.Native.Nat.{ℕ, zero, suc, _+_, _≤_, _<_}
@@ -30,6 +30,14 @@ false-of false h = refl
 
 pub not-both : {b : Bool} → b ≡ true → b ≡ false → ⊥
 not-both e f = true≢false (sym e ∙ f)
+
+-- one of two holds, and it is not the first
+pub or-other : {a b : Bool} → a ≡ false → (a || b) ≡ true → b ≡ true
+or-other {a} {b} e f = rw e at f
+
+pub or-neither : (a b : Bool) → (a || b) ≡ false → (a ≡ false) × (b ≡ false)
+or-neither true b e = absurd (true≢false e)
+or-neither false b e = (refl, e)
 
 -- two tests that hold together are one
 pub same-truth : (a b : Bool) → (a ≡ true → b ≡ true) → (b ≡ true → a ≡ true) → a ≡ b
@@ -79,6 +87,21 @@ unfolding every
 every-cong f g zero h = refl
 every-cong f g (suc n) h = rw (every-cong f g n (λ k l. h k (omega arith)), h n (omega arith))
 
+-- a number that fails the test
+pub record Miss (f : ℕ → Bool) (n : ℕ) : Type 0 where
+  pub at : ℕ
+  pub below : at < n
+  pub fails : f at ≡ false
+
+pub every-miss : (f : ℕ → Bool) (n : ℕ) → every f n ≡ false → Miss f n
+unfolding every
+every-miss f zero e = absurd (true≢false e)
+every-miss f (suc n) e = go (every-miss f n) (every f n) refl e
+  where
+    go : (every f n ≡ false → Miss f n) → (t : Bool) → every f n ≡ t → (t && f n) ≡ false → Miss f (suc n)
+    go lower true g h = record { at = n; below = omega arith; fails = h }
+    go lower false g h = let m = lower g in record { at = m .at; below = let l = m .below in omega arith; fails = m .fails }
+
 -- a loop that leaves at the first number that fails: what it knows after i numbers, and after one more
 pub every-step : (f : ℕ → Bool) (i : ℕ) → every f i ≡ true → f i ≡ true → every f (i + 1) ≡ true
 unfolding every
@@ -124,11 +147,7 @@ count-le f (suc n) = let a = count-le f n in let b = oneIf-le (f n) in omega ari
 pub everyOf-append {ℓ} : {A : Type ℓ} (f : A → Bool) (s t : List A) → everyOf f (s ++ t) ≡ (everyOf f s && everyOf f t)
 unfolding everyOf
 everyOf-append f [] t = refl
-everyOf-append f (a ∷ s) t = rw (everyOf-append f s t) (assoc (f a) (everyOf f s) (everyOf f t))
-  where
-    assoc : (p q r : Bool) → (p && (q && r)) ≡ ((p && q) && r)
-    assoc true q r = refl
-    assoc false q r = refl
+everyOf-append f (a ∷ s) t = rw (everyOf-append f s t) (sym (and-assoc (f a) (everyOf f s) (everyOf f t)))
 
 pub everyOf-imp {ℓ} : {A : Type ℓ} (f g : A → Bool) (l : List A) → ((a : A) → f a ≡ true → g a ≡ true) → everyOf f l ≡ true → everyOf g l ≡ true
 unfolding everyOf

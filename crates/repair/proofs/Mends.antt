@@ -1,7 +1,7 @@
 -- Laws of repairs: the parts of `mends`, that its beginnings mend too, and what the repair chosen is.
 -- Assumes nothing.
 use mathlib.Core.Path.{_≡_, refl, sym, _∙_, ap, ap₂}
-use mathlib.Core.Bool.{Bool, true, false, _&&_, _||_, not, cond, true≢false, or-false, and-false, and-true}
+use mathlib.Core.Bool.{Bool, true, false, _&&_, _||_, not, cond, true≢false, or-false, or-self, and-false, and-true}
 use mathlib.Core.List.{List, [], _∷_, _++_}
 use mathlib.Core.Option.{Option, none, some}
 use Prim.Native.Nat.{ℕ, _+_, _≤_, _<_}
@@ -102,11 +102,7 @@ unfolding isLost lotsOf someOf single pair
 lost-either L p = go (eqb (L .0 .0) (L .1 .0)) refl
   where
     go : (t : Bool) → eqb (L .0 .0) (L .1 .0) ≡ t → someOf (eqb p) (cond t (L .0 .0 ∷ []) (L .0 .0 ∷ L .1 .0 ∷ [])) ≡ (eqb p (L .0 .0) || eqb p (L .1 .0))
-    go true e = rw (← eqb-true (L .0 .0) (L .1 .0) e) (twice (eqb p (L .0 .0)))
-      where
-        twice : (b : Bool) → (b || false) ≡ (b || b)
-        twice true = refl
-        twice false = refl
+    go true e = rw (← eqb-true (L .0 .0) (L .1 .0) e) (or-false (eqb p (L .0 .0)) ∙ sym (or-self (eqb p (L .0 .0))))
     go false e = rw or-false
 
 -- The tests of one lot, as the code comes to them: w is the slot in which the lot stands, g its give word

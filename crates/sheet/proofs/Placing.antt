@@ -9,20 +9,15 @@ use lib.ListN.{length, getD, set, length-set}
 use lib.Seq.{getD-set-same, getD-set-other, set-comm}
 use borrow.Author.Tests.{eqb-true, eqb-false, eq-eqb, not-true}
 use Rattle.lex.specs.Every.{everyOf, someOf}
-use Rattle.lex.proofs.Every.{both, and-left, and-right, not-both}
+use Rattle.lex.proofs.Every.{both, and-left, and-right, not-both, or-neither}
 use Rattle.sheet.specs.Moves.{Move, isOf, names, once, stirs, placedAll, markedAll}
 
 -- Names
 
-or-cases : (a b : Bool) → (a || b) ≡ false → (a ≡ false) × (b ≡ false)
-or-cases false false e = (refl, refl)
-or-cases true b e = absurd (not-both refl e)
-or-cases false true e = absurd (not-both refl e)
-
 -- the first move names another lot, and so do the others
 names-split : (x : Move) (l : List Move) (p : ℕ) → names (x ∷ l) p ≡ false → (x .lot ≡ p → ⊥) × (names l p ≡ false)
 unfolding names someOf isOf
-names-split x l p e = let c = or-cases (eqb (x .lot) p) (names l p) e in (eqb-false (x .lot) p (c .0), c .1)
+names-split x l p e = let c = or-neither (eqb (x .lot) p) (names l p) e in (eqb-false (x .lot) p (c .0), c .1)
 
 pub names-later : (x : Move) (l : List Move) (p : ℕ) → names l p ≡ true → names (x ∷ l) p ≡ true
 unfolding names someOf

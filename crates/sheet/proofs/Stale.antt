@@ -2,16 +2,16 @@
 -- which saves are stale.
 -- Assumes nothing.
 use mathlib.Core.Path.{_≡_, refl, sym, _∙_, ap}
-use mathlib.Core.Bool.{Bool, true, false, _&&_, _||_, not}
+use mathlib.Core.Bool.{Bool, true, false, _||_, not}
 use mathlib.Core.List.{List, [], _∷_}
-use Prim.Native.Nat.{ℕ, zero, suc, _+_, _≤_, _<_}
+use Prim.Native.Nat.{ℕ, _+_, _≤_, _<_}
 use native.Mathlib.Omega.{arith}
 use native.Mathlib.Decide.{decLt}
 use lib.Dec.{leb, ltb}
 use lib.ListN.{getD}
-use borrow.Author.Tests.{leb-false, lt-leb, ltb-true, eq-eqb, ne-eqb}
-use Rattle.lex.specs.Every.{every, everyOf}
-use Rattle.lex.proofs.Every.{and-left, false-of, not-both, every-false}
+use borrow.Author.Tests.{leb-false, lt-leb, ltb-true, eq-eqb, ne-eqb, not-false}
+use Rattle.lex.specs.Every.{everyOf}
+use Rattle.lex.proofs.Every.{and-left, false-of, not-both, or-neither, every-false, every-miss}
 use Rattle.week.specs.Rules.{Rules, bitOf}
 use Rattle.week.specs.Tables.{Week, lots, pairRules}
 use Rattle.week.proofs.Tables.{accepted}
@@ -134,35 +134,11 @@ marked {W} {S} held (saving c m ∷ h) p =
 
 -- Stale saves
 
--- a number that fails a test
-record Miss (f : ℕ → Bool) (n : ℕ) : Type 0 where
-  pub at : ℕ
-  pub below : at < n
-  pub fails : f at ≡ false
-
-every-miss : (f : ℕ → Bool) (n : ℕ) → every f n ≡ false → Miss f n
-unfolding every
-every-miss f zero e = absurd (not-both refl e)
-every-miss f (suc n) e = go (f n) refl (every-miss f n) e
-  where
-    go : (b : Bool) → f n ≡ b → (every f n ≡ false → Miss f n) → (every f n && b) ≡ false → Miss f (suc n)
-    go false g lower t = record { at = n; below = omega arith; fails = g }
-    go true g lower t = let r = lower (last (every f n) t) in record { at = r .at; below = let l = r .below in omega arith; fails = r .fails }
-      where
-        last : (a : Bool) → (a && true) ≡ false → a ≡ false
-        last true e = e
-        last false e = refl
-
 module _ (R : Rules) (marks : List ℕ) (c p q : ℕ) where
   -- a mark that makes a save stale
   stale-read : freshAt R marks c p q ≡ false → (near R p q ≡ true) × (c < getD marks q 0)
   unfolding freshAt
-  stale-read e = go (near R p q) (leb (getD marks q 0) c) refl refl e
-    where
-      go : (a b : Bool) → near R p q ≡ a → leb (getD marks q 0) c ≡ b → (not a || b) ≡ false → (near R p q ≡ true) × (c < getD marks q 0)
-      go true false f g t = (f, leb-false (getD marks q 0) c g)
-      go true true f g t = absurd (not-both refl t)
-      go false b f g t = absurd (not-both refl t)
+  stale-read e = let n = or-neither (not (near R p q)) (leb (getD marks q 0) c) e in (not-false (near R p q) (n .0), leb-false (getD marks q 0) c (n .1))
 
   stale-make : near R p q ≡ true → c < getD marks q 0 → freshAt R marks c p q ≡ false
   unfolding freshAt

@@ -12,7 +12,7 @@ use lib.ListN.{getD, length, take}
 use lib.Seq.{getD-append-seam, getD-take, length-take-le}
 use borrow.Author.Tests.{eqb-false, eq-eqb, ne-eqb}
 use Rattle.lex.specs.Every.{every}
-use Rattle.lex.proofs.Every.{both, and-left, and-right, same-truth, every-true, every-at, every-false, every-cong, Snoc, Closed, every-snoc, snoc-closed, snoc-link, snoc-before, length-snoc}
+use Rattle.lex.proofs.Every.{both, and-left, and-right, or-other, same-truth, every-true, every-at, every-false, every-cong, Snoc, Closed, every-snoc, snoc-closed, snoc-link, snoc-before, length-snoc}
 use Rattle.week.specs.Rules.{Rules, inside, inDomain, tieWord, together, free, tied, slotStands, pairStands, lotStands, keeps, beside, fits, lotFits, keepsHalf}
 use Rattle.week.proofs.Words.{bit-below}
 
@@ -81,11 +81,8 @@ module _ (R : Rules) where
   unfolding keeps slotStands lotStands pairStands
   keeps-read s e = record {
     domain = λ p l. every-at (slotStands R s) (length s) p (and-left (every (slotStands R s) (length s)) (every (lotStands R s) (length s)) e) l;
-    pairs = λ p q l m h. other (ne-eqb p q h) (every-at (pairStands R s p) (length s) q (every-at (lotStands R s) (length s) p (and-right (every (slotStands R s) (length s)) (every (lotStands R s) (length s)) e) l) m);
+    pairs = λ p q l m h. or-other (ne-eqb p q h) (every-at (pairStands R s p) (length s) q (every-at (lotStands R s) (length s) p (and-right (every (slotStands R s) (length s)) (every (lotStands R s) (length s)) e) l) m);
   }
-    where
-      other : {a b : Bool} → a ≡ false → (a || b) ≡ true → b ≡ true
-      other {a} {b} e f = rw e at f
 
   pub keeps-make : (s : List ℕ) → Keeps s → keeps R s ≡ true
   unfolding keeps slotStands lotStands pairStands
