@@ -2,9 +2,9 @@
 -- that agrees on those. Assumes nothing.
 use mathlib.Core.Path.{_≡_, refl, sym, _∙_, ap, subst}
 use mathlib.Core.Bool.{Bool, true, false, _&&_, _||_, cond, true≢false, and-true, and-self}
-use mathlib.Core.List.{List, [], _∷_, _++_, map, flatMap}
+use mathlib.Core.List.{List, [], _∷_, _++_}
 use mathlib.Core.Option.{Option, none, some}
-use Prim.Native.Nat.{ℕ, zero, suc, _+_, _-_, _≤_, _<_}
+use Prim.Native.Nat.{ℕ, zero, suc, _≤_, _<_}
 use native.Mathlib.Decide.{decLt}
 use native.Mathlib.Nat.{le-refl}
 use native.Mathlib.Omega.{arith}
@@ -13,18 +13,18 @@ use lib.ListN.{length, getD}
 use borrow.Author.Tests.{ltb-true, lt-ltb, leb-true, le-leb, eqb-true, eqb-false, ne-eqb}
 use Rattle.lex.specs.Every.{imp, every, oneIf, count, everyOf}
 use Rattle.lex.specs.First.{first, always, isFound}
-use Rattle.lex.proofs.Every.{both, and-left, and-right, or-other, imp-in, imp-out, every-true, every-at, everyOf-append, Closed, length-snoc, snoc-before}
+use Rattle.lex.proofs.Every.{both, and-left, and-right, or-other, imp-in, imp-out, every-true, every-at, Closed, length-snoc, snoc-before}
 use Rattle.lex.proofs.First.{first-some, first-none}
 use Rattle.week.specs.declared.Numbers.{Numbers}
 use Rattle.week.specs.Rules.{Rules, bitOf, inDomain, together, slotStands, pairStands, lotStands, keeps}
 use Rattle.week.specs.Tables.{Week, lots, pairRules}
 use Rattle.repair.specs.declared.Lost.{Lost}
-use Rattle.repair.specs.Break.{lotsFrom, single, pair, singles, pairsOf, pairs, lostSets, breaks, rowCount}
+use Rattle.repair.specs.Break.{single, pair, lostSets, breaks, rowCount}
 use Rattle.repair.specs.Found.{lotsOf}
 use Rattle.repair.specs.Repair.{Case, case, mayGo, moves, goesAt, movesAt, mends, repairOf}
 use Rattle.robust.specs.Super.{rowSets, isBreak, repairFor, safe, robust}
 use Rattle.robust.proofs.Rows.{every-row}
-use Rattle.robust.proofs.Super.{sets-make}
+use Rattle.robust.proofs.Super.{single-make, pair-make, sets-make}
 use Rattle.cuts.specs.Cut.{whole, lotStandsOn, keepsOn, movesOn, mendsOn, RepairsOn, mendedOn, breaksOn, safeOn, robustOn}
 
 -- With every lot on
@@ -198,25 +198,13 @@ module _ (R : Rules) (C : Case) (on : ℕ → Bool) where
 abbrev below : ℕ → List ℕ → Bool
 below n A = everyOf (λ p. ltb p n) A
 
--- sets made of the k lots from p on, n at most
-module _ (f : List ℕ → Bool) (n : ℕ) where
-  sets-map : (h : ℕ → List ℕ) (p k : ℕ) → p + k ≤ n → ((q : ℕ) → q < n → f (h q) ≡ true) → everyOf f (map h (lotsFrom p k)) ≡ true
-  unfolding everyOf lotsFrom
-  sets-map h p zero l e = refl
-  sets-map h p (suc k) l e = both (e p (omega arith)) (sets-map h (suc p) k (omega arith) e)
-
-  sets-flat : (h : ℕ → List (List ℕ)) (p k : ℕ) → p + k ≤ n → ((q : ℕ) → q < n → everyOf f (h q) ≡ true) → everyOf f (flatMap h (lotsFrom p k)) ≡ true
-  unfolding everyOf lotsFrom flatMap
-  sets-flat h p zero l e = refl
-  sets-flat h p (suc k) l e = everyOf-append f (h p) (flatMap h (lotsFrom (suc p) k)) ∙ both (e p (omega arith)) (sets-flat h (suc p) k (omega arith) e)
-
 -- their lots are lots of the week
 sets-below : (n a : ℕ) → everyOf (below n) (lostSets n a) ≡ true
-unfolding singles single pairs pairsOf pair everyOf
+unfolding single pair everyOf
 sets-below n a =
     sets-make (below n) n a
-    (λ l. sets-map (below n) n (λ p. p ∷ []) 0 n (omega arith) (λ p m. both (lt-ltb p n m) refl))
-    (λ l. sets-flat (below n) n (λ p. map (λ q. p ∷ q ∷ []) (lotsFrom (suc p) (n - suc p))) 0 n (omega arith) (λ p m. sets-map (below n) n (λ q. p ∷ q ∷ []) (suc p) (n - suc p) (omega arith) (λ q i. both (lt-ltb p n m) (both (lt-ltb q n i) refl))))
+    (λ l. single-make (below n) n (λ p m. both (lt-ltb p n m) refl))
+    (λ l. pair-make (below n) n (λ p q m i. both (lt-ltb p n (omega arith)) (both (lt-ltb q n i) refl)))
 
 -- a test of every set, from another
 everyOf-both : (b f g : List ℕ → Bool) (l : List (List ℕ)) → ((A : List ℕ) → b A ≡ true → f A ≡ true → g A ≡ true) → everyOf b l ≡ true → everyOf f l ≡ true → everyOf g l ≡ true

@@ -1,103 +1,53 @@
 -- All sets of 1 to a lots, by the rows that stand for them: a test of each row's set is a test of every set, and each set has its row.
 -- Assumes nothing.
 use mathlib.Core.Path.{_≡_, refl, sym, _∙_, ap}
-use mathlib.Core.Bool.{Bool, true, false, _&&_, cond, true≢false}
-use mathlib.Core.Logic.{⊎-elim}
-use mathlib.Core.List.{List, [], _∷_, map, flatMap}
-use Prim.Native.Nat.{ℕ, zero, suc, _+_, _-_, _≤_, _<_}
+use mathlib.Core.Bool.{Bool, true, false, cond, true≢false}
+use mathlib.Core.List.{List, [], _∷_, flatMap}
+use Prim.Native.Nat.{ℕ, zero, suc, _+_, _≤_, _<_}
 use native.Mathlib.Omega.{arith}
-use native.Mathlib.Nat.{eq-or-lt-of-le}
 use lib.Dec.{eqb}
 use lib.ListN.{length, getD}
 use borrow.Author.Tests.{eqb-true}
 use Rattle.lex.specs.Every.{every, everyOf}
 use Rattle.lex.specs.Lists.{same}
-use Rattle.lex.proofs.Every.{both, and-left, and-right, every-true, every-at, everyOf-append}
+use Rattle.lex.proofs.Every.{every-true, every-at}
 use Rattle.lex.proofs.Lists.{same-eq, same-self}
 use Rattle.repair.specs.Break.{lotsFrom, single, pair, singles, pairsOf, pairs, lostSets, lostOk, place, rowNumber, rowCount}
 use Rattle.repair.proofs.Rows.{row-below}
 use Rattle.robust.proofs.Rows.{every-row, set-fewer, count-most}
-use Rattle.robust.proofs.Super.{sets-read, sets-make}
+use Rattle.robust.proofs.Super.{single-read, single-make, pair-read, pair-make, sets-read, sets-make}
 use Rattle.demands.specs.Plans.{SetOfLots}
 use Rattle.demands.proofs.Readings.{lost-reads}
 
 -- A test of every set of lots is the test of each row's set
 
-module _ (f : List ℕ → Bool) where
-  every-map : (h : ℕ → List ℕ) (l : List ℕ) → everyOf f (map h l) ≡ everyOf (λ p. f (h p)) l
-  unfolding everyOf
-  every-map h [] = refl
-  every-map h (p ∷ l) = ap (λ (t : Bool). f (h p) && t) (every-map h l)
+module _ (f : List ℕ → Bool) (n a : ℕ) (two : a ≤ 2) where
+  pub every-set : everyOf f (lostSets n a) ≡ true → (A : List ℕ) → SetOfLots n a A → f A ≡ true
+  unfolding single pair
+  every-set e [] set = absurd (let l = set .some in omega arith)
+  every-set e (p ∷ []) set = single-read f n (sets-read f n a e .0 (let l = set .few in omega arith)) p (set .below 0 (omega arith))
+  every-set e (p ∷ q ∷ []) set = pair-read f n (sets-read f n a e .1 (let l = set .few in omega arith)) p q (set .ascends 0 (omega arith)) (set .below 1 (omega arith))
+  every-set e (p ∷ q ∷ r ∷ A) set = absurd (let l = set .few in omega arith)
 
-  every-flat : (h : ℕ → List (List ℕ)) (l : List ℕ) → everyOf f (flatMap h l) ≡ everyOf (λ p. everyOf f (h p)) l
-  unfolding everyOf flatMap
-  every-flat h [] = refl
-  every-flat h (p ∷ l) = everyOf-append f (h p) (flatMap h l) ∙ ap (λ (t : Bool). everyOf f (h p) && t) (every-flat h l)
+  pub set-every : ((A : List ℕ) → SetOfLots n a A → f A ≡ true) → everyOf f (lostSets n a) ≡ true
+  unfolding single pair
+  set-every h =
+      sets-make f n a
+      (λ l. single-make f n (λ p m. h (p ∷ []) (record { some = omega arith; few = omega arith; below = one p m; ascends = λ i j. absurd (omega arith) })))
+      (λ l. pair-make f n (λ p q x y. h (p ∷ q ∷ []) (record { some = omega arith; few = omega arith; below = both-below p q x y; ascends = rising p q x })))
+    where
+      one : (p : ℕ) → p < n → (i : ℕ) → i < 1 → getD (p ∷ []) i 0 < n
+      one p m zero j = m
+      one p m (suc i) j = absurd (omega arith)
 
-lots-read : (g : ℕ → Bool) (p k i : ℕ) → everyOf g (lotsFrom p k) ≡ true → p ≤ i → i < p + k → g i ≡ true
-unfolding everyOf lotsFrom
-lots-read g p zero i e l m = absurd (omega arith)
-lots-read g p (suc k) i e l m =
-    ⊎-elim
-    (λ q. ap g (sym q) ∙ and-left (g p) (everyOf g (lotsFrom (suc p) k)) e)
-    (λ q. lots-read g (suc p) k i (and-right (g p) (everyOf g (lotsFrom (suc p) k)) e) (omega arith) (omega arith))
-    (eq-or-lt-of-le l)
+      both-below : (p q : ℕ) → p < q → q < n → (i : ℕ) → i < 2 → getD (p ∷ q ∷ []) i 0 < n
+      both-below p q x y zero j = omega arith
+      both-below p q x y (suc zero) j = y
+      both-below p q x y (suc (suc i)) j = absurd (omega arith)
 
-lots-make : (g : ℕ → Bool) (p k : ℕ) → ((i : ℕ) → p ≤ i → i < p + k → g i ≡ true) → everyOf g (lotsFrom p k) ≡ true
-unfolding everyOf lotsFrom
-lots-make g p zero h = refl
-lots-make g p (suc k) h = both (h p (omega arith) (omega arith)) (lots-make g (suc p) k (λ i l m. h i (omega arith) (omega arith)))
-
-module _ (f : List ℕ → Bool) (n : ℕ) where
-  single-read : everyOf f (singles n) ≡ true → (p : ℕ) → p < n → f (single p) ≡ true
-  unfolding singles
-  single-read e p l = lots-read (λ q. f (single q)) 0 n p (sym (every-map f single (lotsFrom 0 n)) ∙ e) (omega arith) (omega arith)
-
-  single-make : ((p : ℕ) → p < n → f (single p) ≡ true) → everyOf f (singles n) ≡ true
-  unfolding singles
-  single-make h = every-map f single (lotsFrom 0 n) ∙ lots-make (λ q. f (single q)) 0 n (λ i l m. h i (omega arith))
-
-  pair-read : everyOf f (pairs n) ≡ true → (p q : ℕ) → p < q → q < n → f (pair p q) ≡ true
-  unfolding pairs pairsOf
-  pair-read e p q l m =
-      let row = lots-read (λ i. everyOf f (pairsOf n i)) 0 n p (sym (every-flat f (pairsOf n) (lotsFrom 0 n)) ∙ e) (omega arith) (omega arith) in
-      lots-read (λ i. f (pair p i)) (suc p) (n - suc p) q (sym (every-map f (pair p) (lotsFrom (suc p) (n - suc p))) ∙ row) (omega arith) (omega arith)
-
-  pair-make : ((p q : ℕ) → p < q → q < n → f (pair p q) ≡ true) → everyOf f (pairs n) ≡ true
-  unfolding pairs pairsOf
-  pair-make h =
-      every-flat f (pairsOf n) (lotsFrom 0 n)
-      ∙ lots-make (λ i. everyOf f (pairsOf n i)) 0 n
-      (λ p l m. every-map f (pair p) (lotsFrom (suc p) (n - suc p)) ∙ lots-make (λ i. f (pair p i)) (suc p) (n - suc p) (λ q x y. h p q (omega arith) (omega arith)))
-
-  -- over all sets
-  module _ (a : ℕ) (two : a ≤ 2) where
-    pub every-set : everyOf f (lostSets n a) ≡ true → (A : List ℕ) → SetOfLots n a A → f A ≡ true
-    unfolding single pair
-    every-set e [] set = absurd (let l = set .some in omega arith)
-    every-set e (p ∷ []) set = single-read (sets-read f n a e .0 (let l = set .few in omega arith)) p (set .below 0 (omega arith))
-    every-set e (p ∷ q ∷ []) set = pair-read (sets-read f n a e .1 (let l = set .few in omega arith)) p q (set .ascends 0 (omega arith)) (set .below 1 (omega arith))
-    every-set e (p ∷ q ∷ r ∷ A) set = absurd (let l = set .few in omega arith)
-
-    pub set-every : ((A : List ℕ) → SetOfLots n a A → f A ≡ true) → everyOf f (lostSets n a) ≡ true
-    unfolding single pair
-    set-every h =
-        sets-make f n a
-        (λ l. single-make (λ p m. h (p ∷ []) (record { some = omega arith; few = omega arith; below = one p m; ascends = λ i j. absurd (omega arith) })))
-        (λ l. pair-make (λ p q x y. h (p ∷ q ∷ []) (record { some = omega arith; few = omega arith; below = both-below p q x y; ascends = rising p q x })))
-      where
-        one : (p : ℕ) → p < n → (i : ℕ) → i < 1 → getD (p ∷ []) i 0 < n
-        one p m zero j = m
-        one p m (suc i) j = absurd (omega arith)
-
-        both-below : (p q : ℕ) → p < q → q < n → (i : ℕ) → i < 2 → getD (p ∷ q ∷ []) i 0 < n
-        both-below p q x y zero j = omega arith
-        both-below p q x y (suc zero) j = y
-        both-below p q x y (suc (suc i)) j = absurd (omega arith)
-
-        rising : (p q : ℕ) → p < q → (i : ℕ) → i + 1 < 2 → getD (p ∷ q ∷ []) i 0 < getD (p ∷ q ∷ []) (i + 1) 0
-        rising p q x zero j = x
-        rising p q x (suc i) j = absurd (omega arith)
+      rising : (p q : ℕ) → p < q → (i : ℕ) → i + 1 < 2 → getD (p ∷ q ∷ []) i 0 < getD (p ∷ q ∷ []) (i + 1) 0
+      rising p q x zero j = x
+      rising p q x (suc i) j = absurd (omega arith)
 
 -- Each set has its row
 

@@ -1,11 +1,13 @@
--- Laws of super solutions: fewer losses, and more lots that may move, keep a super solution one.
+-- Laws of super solutions: the tests of every set of lots, read and made; and fewer losses, and more lots that may move, keep a super solution one.
 -- Assumes nothing.
-use mathlib.Core.Path.{_≡_, refl, sym, _∙_}
+use mathlib.Core.Path.{_≡_, refl, sym, _∙_, ap}
 use mathlib.Core.Bool.{Bool, true, _&&_, cond}
-use mathlib.Core.List.{List, []}
-use Prim.Native.Nat.{ℕ, _≤_, _<_}
+use mathlib.Core.Logic.{⊎-elim}
+use mathlib.Core.List.{List, [], _∷_, map, flatMap}
+use Prim.Native.Nat.{ℕ, zero, suc, _+_, _-_, _≤_, _<_}
 use native.Mathlib.Omega.{arith}
 use native.Mathlib.Decide.{decLt}
+use native.Mathlib.Nat.{eq-or-lt-of-le}
 use lib.Dec.{eqb, ltb}
 use lib.ListN.{length}
 use borrow.Author.Tests.{lt-ltb, le-ltb}
@@ -14,7 +16,7 @@ use Rattle.lex.specs.First.{isFound}
 use Rattle.lex.proofs.Every.{both, and-left, and-right, imp-in, imp-out, everyOf-append, everyOf-imp}
 use Rattle.week.specs.Rules.{keeps}
 use Rattle.week.specs.Tables.{Week, lots, pairRules}
-use Rattle.repair.specs.Break.{singles, pairs, lostSets}
+use Rattle.repair.specs.Break.{lotsFrom, single, pair, singles, pairsOf, pairs, lostSets}
 use Rattle.repair.specs.Repair.{case, replaces, yields, helps, mayGo, moves, goesAt, movesAt}
 use Rattle.repair.proofs.Mends.{mends-read, mends-make, repair-found, found-repair}
 use Rattle.robust.specs.Super.{isBreak, repairFor, safe, robust, isSuper}
@@ -29,7 +31,56 @@ allow W a b = record {
   ties = W .ties;
 }
 
--- the tests of every set, by kind of set
+-- The tests of every set
+
+module _ (f : List ℕ → Bool) where
+  pub every-map : (h : ℕ → List ℕ) (l : List ℕ) → everyOf f (map h l) ≡ everyOf (λ p. f (h p)) l
+  unfolding everyOf
+  every-map h [] = refl
+  every-map h (p ∷ l) = ap (λ (t : Bool). f (h p) && t) (every-map h l)
+
+  pub every-flat : (h : ℕ → List (List ℕ)) (l : List ℕ) → everyOf f (flatMap h l) ≡ everyOf (λ p. everyOf f (h p)) l
+  unfolding everyOf flatMap
+  every-flat h [] = refl
+  every-flat h (p ∷ l) = everyOf-append f (h p) (flatMap h l) ∙ ap (λ (t : Bool). everyOf f (h p) && t) (every-flat h l)
+
+pub lots-read : (g : ℕ → Bool) (p k i : ℕ) → everyOf g (lotsFrom p k) ≡ true → p ≤ i → i < p + k → g i ≡ true
+unfolding everyOf lotsFrom
+lots-read g p zero i e l m = absurd (omega arith)
+lots-read g p (suc k) i e l m =
+    ⊎-elim
+    (λ q. ap g (sym q) ∙ and-left (g p) (everyOf g (lotsFrom (suc p) k)) e)
+    (λ q. lots-read g (suc p) k i (and-right (g p) (everyOf g (lotsFrom (suc p) k)) e) (omega arith) (omega arith))
+    (eq-or-lt-of-le l)
+
+pub lots-make : (g : ℕ → Bool) (p k : ℕ) → ((i : ℕ) → p ≤ i → i < p + k → g i ≡ true) → everyOf g (lotsFrom p k) ≡ true
+unfolding everyOf lotsFrom
+lots-make g p zero h = refl
+lots-make g p (suc k) h = both (h p (omega arith) (omega arith)) (lots-make g (suc p) k (λ i l m. h i (omega arith) (omega arith)))
+
+module _ (f : List ℕ → Bool) (n : ℕ) where
+  pub single-read : everyOf f (singles n) ≡ true → (p : ℕ) → p < n → f (single p) ≡ true
+  unfolding singles
+  single-read e p l = lots-read (λ q. f (single q)) 0 n p (sym (every-map f single (lotsFrom 0 n)) ∙ e) (omega arith) (omega arith)
+
+  pub single-make : ((p : ℕ) → p < n → f (single p) ≡ true) → everyOf f (singles n) ≡ true
+  unfolding singles
+  single-make h = every-map f single (lotsFrom 0 n) ∙ lots-make (λ q. f (single q)) 0 n (λ i l m. h i (omega arith))
+
+  pub pair-read : everyOf f (pairs n) ≡ true → (p q : ℕ) → p < q → q < n → f (pair p q) ≡ true
+  unfolding pairs pairsOf
+  pair-read e p q l m =
+      let row = lots-read (λ i. everyOf f (pairsOf n i)) 0 n p (sym (every-flat f (pairsOf n) (lotsFrom 0 n)) ∙ e) (omega arith) (omega arith) in
+      lots-read (λ i. f (pair p i)) (suc p) (n - suc p) q (sym (every-map f (pair p) (lotsFrom (suc p) (n - suc p))) ∙ row) (omega arith) (omega arith)
+
+  pub pair-make : ((p q : ℕ) → p < q → q < n → f (pair p q) ≡ true) → everyOf f (pairs n) ≡ true
+  unfolding pairs pairsOf
+  pair-make h =
+      every-flat f (pairsOf n) (lotsFrom 0 n)
+      ∙ lots-make (λ i. everyOf f (pairsOf n i)) 0 n
+      (λ p l m. every-map f (pair p) (lotsFrom (suc p) (n - suc p)) ∙ lots-make (λ i. f (pair p i)) (suc p) (n - suc p) (λ q x y. h p q (omega arith) (omega arith)))
+
+-- by kind of set
 pub sets-read : (f : List ℕ → Bool) (n a : ℕ) → everyOf f (lostSets n a) ≡ true → (0 < a → everyOf f (singles n) ≡ true) × (1 < a → everyOf f (pairs n) ≡ true)
 unfolding lostSets
 sets-read f n a e =
