@@ -3,9 +3,8 @@ use mathlib.Core.Path.{_≡_, refl, sym, _∙_, ap}
 use mathlib.Core.Bool.{true, false, not}
 use mathlib.Core.List.{List}
 use mathlib.Core.Option.{none, some}
-use Prim.Native.Nat.{ℕ, zero, suc, _+_, _-_, _≤_, _<_}
+use Prim.Native.Nat.{ℕ, _+_, _-_, _≤_, _<_}
 use native.Mathlib.Decide.{decLt}
-use native.Mathlib.Nat.{sub-zero, zero-sub, suc-sub-suc}
 use native.Mathlib.Numerals.{add-one}
 use native.Mathlib.Omega.{arith}
 use lib.Dec.{eqb}
@@ -14,6 +13,7 @@ use lib.Seq.{getD-take, take-suc-set, drop-set-lt, length-take-le}
 use borrow.Author.Tests.{not-true}
 use Rattle.lex.specs.Lists.{padded}
 use Rattle.lex.proofs.Every.{and-left, each, every-true, every-at}
+use Rattle.lex.proofs.Turn.{drop-replicate}
 use Rattle.week.specs.Rules.{bitOf}
 use Rattle.week.specs.Tables.{Week, lots, pairRules, refusal, lotTests, lotOk, lotOkAt, wordsOk}
 use Rattle.week.proofs.Tables.{accepted}
@@ -82,11 +82,6 @@ pub record Outer (W : Week) (order words known slots : List ℕ) (d : ℕ) : Typ
   pub size : length slots ≡ 24
   pub same : take d slots ≡ take d order
   pub rest : drop (lots W) slots ≡ replicate (24 - lots W) 0
-
-drop-replicate : (n m a : ℕ) → drop n (replicate m a) ≡ replicate (m - n) a
-drop-replicate zero m a = rw sub-zero
-drop-replicate (suc n) zero a = rw zero-sub
-drop-replicate (suc n) (suc m) a = rw suc-sub-suc (drop-replicate n m a)
 
 -- no lot is fixed, and o is a super solution
 pub outer-start : (W : Week) (fine : refusal W ≡ 0) (words : List ℕ) → Made (lots W) (λ p. getD (W .domain) p 0) words → (x : ℕ) (o : List ℕ) → length o ≡ 24 → Answers W (replicate 24 16) x 16 true o → Outer W (replicate 24 16) words o (replicate 24 0) 0

@@ -26,7 +26,7 @@ pub record State (Q : List ℕ → Type 0) (n m k : ℕ) (ok : List ℕ → Bool
   pub good : ok (take d s) ≡ true
   pub reached : Reached Q (take d s) from
 
-drop-replicate : (n m a : ℕ) → drop n (replicate m a) ≡ replicate (m - n) a
+pub drop-replicate : (n m a : ℕ) → drop n (replicate m a) ≡ replicate (m - n) a
 drop-replicate zero m a = rw sub-zero
 drop-replicate (suc n) zero a = rw zero-sub
 drop-replicate (suc n) (suc m) a = rw suc-sub-suc (drop-replicate n m a)
