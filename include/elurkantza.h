@@ -61,7 +61,7 @@ struct elurkantza_sheet {
     uint32_t marks[24]; /* for each lot the save that last moved it, 0 if none */
 };
 
-/* A week, in front of a call's own arguments. */
+/* A week, in front of a call's own arguments; also for functions of your own that hand one on. */
 #define ELURKANTZA_WEEK                                                                             \
     uint32_t n, uint32_t a, uint32_t b, uint32_t alternative, uint32_t gap, uint32_t helper,        \
     const uint16_t *domain, size_t domain_len, const uint16_t *loss, size_t loss_len,               \
@@ -104,8 +104,6 @@ uint32_t elurkantza_read(const uint8_t *file, size_t file_len, uint32_t *numbers
 
 /* Writes the week's block file into `file`: blocks of 512 bytes with 504 of content each, for 6 + 6 * n + 16 * n * (n - 1) bytes. */
 uint32_t elurkantza_write(ELURKANTZA_WEEK, uint8_t *file, size_t file_len);
-
-#undef ELURKANTZA_WEEK
 
 #ifdef __cplusplus
 }

@@ -114,6 +114,22 @@ static void hand_out(void)
     memcpy(second, before, used);
 }
 
+/* ---- Runs ---- */
+
+struct run both_run(int count, char **arguments, const char *usage)
+{
+    if (count < 3) {
+        fprintf(stderr, "%s\n", usage);
+        exit(2);
+    }
+    return (struct run){
+        .seed = strtoull(arguments[1], NULL, 0),
+        .count = strtoull(arguments[2], NULL, 0),
+        .first = count > 3 ? strtoull(arguments[3], NULL, 0) : 0,
+        .repeats = count > 3,
+    };
+}
+
 /* ---- Reports ---- */
 
 void both_at(const char *program, const char *what, uint64_t seed, uint64_t index)

@@ -39,6 +39,16 @@ uint32_t both_save(const struct week *week, struct elurkantza_sheet *sheet, uint
 uint32_t both_read(const uint8_t *file, size_t file_len, struct reading *reading);
 uint32_t both_write(const struct week *week, uint8_t *file, size_t file_len);
 
+/* How a run with chance is called: SEED COUNT [FIRST]. With FIRST it repeats a part of another run, and is not asked how often
+ * anything came. */
+struct run {
+    uint64_t seed, count, first;
+    bool repeats;
+};
+
+/* The run that the arguments ask for; with too few of them the usage is printed, and the program ends with status 2. */
+struct run both_run(int count, char **arguments, const char *usage);
+
 /* Says where the run stands, for the report of a difference. */
 void both_at(const char *program, const char *what, uint64_t seed, uint64_t index);
 

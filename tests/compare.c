@@ -8,7 +8,6 @@
 
 #include <inttypes.h>
 #include <stdio.h>
-#include <stdlib.h>
 #include <string.h>
 
 enum {
@@ -487,15 +486,10 @@ static bool enough_of_all(void)
 
 int main(int count, char **arguments)
 {
-    if (count < 3) {
-        fprintf(stderr, "compare SEED WEEKS [FIRST]\n");
-        return 2;
-    }
-    uint64_t seed = strtoull(arguments[1], NULL, 0), weeks = strtoull(arguments[2], NULL, 0);
-    uint64_t first = count > 3 ? strtoull(arguments[3], NULL, 0) : 0;
-    for (uint64_t index = first; index < first + weeks; index++) {
-        both_at("compare", "week", seed, index);
-        chance = chance_of(seed, index);
+    const struct run run = both_run(count, arguments, "compare SEED WEEKS [FIRST]");
+    for (uint64_t index = run.first; index < run.first + run.count; index++) {
+        both_at("compare", "week", run.seed, index);
+        chance = chance_of(run.seed, index);
         try_small_week();
         if (index % LARGE_EVERY == LARGE_EVERY - 1)
             try_large_week();
@@ -504,6 +498,6 @@ int main(int count, char **arguments)
     printf("weeks with a super solution %" PRIu64 ", without %" PRIu64 " (of these %" PRIu64
            " with orders that keep the rules); other tables accepted %" PRIu64 "\n",
            with_super, without_super, without_super_but_orders, other_rows_accepted);
-    printf("compare: seed %" PRIu64 ", %" PRIu64 " weeks, %" PRIu64 " calls alike\n", seed, weeks, both_calls());
-    return count > 3 || enough_of_all() ? 0 : 1;
+    printf("compare: seed %" PRIu64 ", %" PRIu64 " weeks, %" PRIu64 " calls alike\n", run.seed, run.count, both_calls());
+    return run.repeats || enough_of_all() ? 0 : 1;
 }

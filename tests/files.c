@@ -10,7 +10,6 @@
 
 #include <inttypes.h>
 #include <stdio.h>
-#include <stdlib.h>
 #include <string.h>
 
 static struct chance chance;
@@ -233,21 +232,16 @@ static bool enough_of_all(void)
 
 int main(int count, char **arguments)
 {
-    if (count < 3) {
-        fprintf(stderr, "files SEED FILES [FIRST]\n");
-        return 2;
-    }
-    uint64_t seed = strtoull(arguments[1], NULL, 0), files = strtoull(arguments[2], NULL, 0);
-    uint64_t first = count > 3 ? strtoull(arguments[3], NULL, 0) : 0;
-    for (uint64_t index = first; index < first + files; index++) {
-        both_at("files", "file", seed, index);
-        chance = chance_of(seed, index);
+    const struct run run = both_run(count, arguments, "files SEED FILES [FIRST]");
+    for (uint64_t index = run.first; index < run.first + run.count; index++) {
+        both_at("files", "file", run.seed, index);
+        chance = chance_of(run.seed, index);
         random_file();
     }
     both_at(NULL, NULL, 0, 0);
-    if (count <= 3)
+    if (!run.repeats)
         files_without_chance();
     both_print_counts();
-    printf("files: seed %" PRIu64 ", %" PRIu64 " random files, %" PRIu64 " calls alike\n", seed, files, both_calls());
-    return count > 3 || enough_of_all() ? 0 : 1;
+    printf("files: seed %" PRIu64 ", %" PRIu64 " random files, %" PRIu64 " calls alike\n", run.seed, run.count, both_calls());
+    return run.repeats || enough_of_all() ? 0 : 1;
 }

@@ -16,7 +16,6 @@
 
 #include <inttypes.h>
 #include <stdio.h>
-#include <stdlib.h>
 #include <string.h>
 
 enum { DESKS = 8, CALLS = 60, MOVES_ROOM = 2 * ROOM };
@@ -242,22 +241,17 @@ static bool enough_of_all(uint64_t histories)
 
 int main(int count, char **arguments)
 {
-    if (count < 3) {
-        fprintf(stderr, "histories SEED HISTORIES [FIRST]\n");
-        return 2;
-    }
-    uint64_t seed = strtoull(arguments[1], NULL, 0), histories = strtoull(arguments[2], NULL, 0);
-    uint64_t first = count > 3 ? strtoull(arguments[3], NULL, 0) : 0;
-    for (uint64_t index = first; index < first + histories; index++) {
-        both_at("histories", "history", seed, index);
-        chance = chance_of(seed, index);
+    const struct run run = both_run(count, arguments, "histories SEED HISTORIES [FIRST]");
+    for (uint64_t index = run.first; index < run.first + run.count; index++) {
+        both_at("histories", "history", run.seed, index);
+        chance = chance_of(run.seed, index);
         play_history();
     }
-    bool enough = count > 3 || enough_of_all(histories);
-    if (count <= 3)
+    bool enough = run.repeats || enough_of_all(run.count);
+    if (!run.repeats)
         play_to_the_last_save();
     printf("well-formed saves: stale %" PRIu64 ", not stale %" PRIu64 "; played again %" PRIu64 "; pairs turned round %"
            PRIu64 "\n", stale_saves, fresh_saves, replayed, turned_round);
-    printf("histories: seed %" PRIu64 ", %" PRIu64 " histories, %" PRIu64 " calls alike\n", seed, histories, both_calls());
+    printf("histories: seed %" PRIu64 ", %" PRIu64 " histories, %" PRIu64 " calls alike\n", run.seed, run.count, both_calls());
     return enough ? 0 : 1;
 }

@@ -2,19 +2,10 @@
  * slow on purpose: where the paper says "the first order with ..", all orders are counted through from the first on. */
 #include "second.h"
 
+#include "paper.h"
+
 #include <stdbool.h>
 #include <string.h>
-
-enum {
-    MOST_LOTS = 24,
-    SLOTS = 16,
-    MOST_TIE_WORDS = MOST_LOTS * MOST_LOTS * SLOTS,
-    MOST_SAVES = 65535,
-    BLOCK = 512,
-    CONTENT = 504, /* content bytes of a block, from byte 4 on */
-    CHECKED = 508, /* bytes of a block that its check covers, and the place of the check */
-    MOST_BLOCKS = 18,
-};
 
 /* The six numbers and four tables as they were lent. */
 struct week {
@@ -125,6 +116,21 @@ static bool ties_right(const struct week *week)
                     if (together(week, p, v, q, w) && !tie_right(week, p, v, q, w))
                         return false;
     return true;
+}
+
+/* The first of 1 to 4 for which a week is refused, or 0. A service says in `numbers` whether its lost lots are right too,
+ * and in `lengths` whether its own lengths are. */
+static uint32_t week_refusal(const struct week *week, bool numbers, bool lengths)
+{
+    if (!numbers_right(week) || !numbers)
+        return 1;
+    if (!lengths_right(week) || !lengths)
+        return 2;
+    if (!words_right(week))
+        return 3;
+    if (!ties_right(week))
+        return 4;
+    return 0;
 }
 
 /* ---- Lost sets and rows ---- */
@@ -271,18 +277,13 @@ static bool first_super_solution(const struct week *week, uint8_t *order)
 
 /* ---- Solve, check, repair, row ---- */
 
-uint32_t second_solve(SECOND_WEEK, uint8_t *order, size_t order_len, uint8_t *table, size_t table_len)
+uint32_t second_solve(ELURKANTZA_WEEK, uint8_t *order, size_t order_len, uint8_t *table, size_t table_len)
 {
     const struct week week = LENT_WEEK;
     uint8_t found[MOST_LOTS];
-    if (!numbers_right(&week))
-        return 1;
-    if (!lengths_right(&week) || order_len != n || table_len != row_count(n, a) * n)
-        return 2;
-    if (!words_right(&week))
-        return 3;
-    if (!ties_right(&week))
-        return 4;
+    uint32_t refused = week_refusal(&week, true, order_len == n && table_len == row_count(n, a) * n);
+    if (refused != 0)
+        return refused;
     if (!first_super_solution(&week, found))
         return 5;
     memcpy(order, found, n);
@@ -303,19 +304,14 @@ static bool row_right(const struct week *week, const uint8_t *order, struct lost
     return memcmp(row, order, week->n) == 0;
 }
 
-uint32_t second_check(SECOND_WEEK, const uint8_t *order, size_t order_len, const uint8_t *table, size_t table_len,
+uint32_t second_check(ELURKANTZA_WEEK, const uint8_t *order, size_t order_len, const uint8_t *table, size_t table_len,
                       uint32_t *row)
 {
     const struct week week = LENT_WEEK;
     *row = 0;
-    if (!numbers_right(&week))
-        return 1;
-    if (!lengths_right(&week) || order_len != n || table_len != row_count(n, a) * n)
-        return 2;
-    if (!words_right(&week))
-        return 3;
-    if (!ties_right(&week))
-        return 4;
+    uint32_t refused = week_refusal(&week, true, order_len == n && table_len == row_count(n, a) * n);
+    if (refused != 0)
+        return refused;
     if (!keeps_the_rules(&week, order))
         return 6;
     for (size_t at = 0; at < row_count(n, a); at++)
@@ -326,19 +322,14 @@ uint32_t second_check(SECOND_WEEK, const uint8_t *order, size_t order_len, const
     return 0;
 }
 
-uint32_t second_repair(SECOND_WEEK, const uint8_t *order, size_t order_len, const uint8_t *lost, size_t lost_len,
+uint32_t second_repair(ELURKANTZA_WEEK, const uint8_t *order, size_t order_len, const uint8_t *lost, size_t lost_len,
                        uint8_t *out, size_t out_len)
 {
     const struct week week = LENT_WEEK;
     uint8_t found[MOST_LOTS];
-    if (!numbers_right(&week) || !lost_right(n, lost, lost_len, 1, 2))
-        return 1;
-    if (!lengths_right(&week) || order_len != n || out_len != n)
-        return 2;
-    if (!words_right(&week))
-        return 3;
-    if (!ties_right(&week))
-        return 4;
+    uint32_t refused = week_refusal(&week, lost_right(n, lost, lost_len, 1, 2), order_len == n && out_len == n);
+    if (refused != 0)
+        return refused;
     if (!keeps_the_rules(&week, order))
         return 6;
     struct lost set = {lost_len, {lost[0], lost_len == 2 ? lost[1] : 0}};
@@ -416,18 +407,13 @@ static bool moves_sound(const struct week *week, const struct elurkantza_sheet *
     return keeps_the_rules(week, order);
 }
 
-uint32_t second_open(SECOND_WEEK, const uint8_t *order, size_t order_len, struct elurkantza_sheet *sheet)
+uint32_t second_open(ELURKANTZA_WEEK, const uint8_t *order, size_t order_len, struct elurkantza_sheet *sheet)
 {
     const struct week week = LENT_WEEK;
     memset(sheet, 0, sizeof *sheet);
-    if (!numbers_right(&week))
-        return 1;
-    if (!lengths_right(&week) || order_len != n)
-        return 2;
-    if (!words_right(&week))
-        return 3;
-    if (!ties_right(&week))
-        return 4;
+    uint32_t refused = week_refusal(&week, true, order_len == n);
+    if (refused != 0)
+        return refused;
     if (!keeps_the_rules(&week, order))
         return 6;
     sheet->n = n;
@@ -435,21 +421,16 @@ uint32_t second_open(SECOND_WEEK, const uint8_t *order, size_t order_len, struct
     return 0;
 }
 
-uint32_t second_copy(SECOND_WEEK, const struct elurkantza_sheet *sheet, uint8_t *order24, size_t order24_len,
+uint32_t second_copy(ELURKANTZA_WEEK, const struct elurkantza_sheet *sheet, uint8_t *order24, size_t order24_len,
                      uint32_t *copy)
 {
     const struct week week = LENT_WEEK;
     *copy = 0;
     if (order24_len == MOST_LOTS)
         memset(order24, 0, MOST_LOTS);
-    if (!numbers_right(&week))
-        return 1;
-    if (!lengths_right(&week) || order24_len != MOST_LOTS)
-        return 2;
-    if (!words_right(&week))
-        return 3;
-    if (!ties_right(&week))
-        return 4;
+    uint32_t refused = week_refusal(&week, true, order24_len == MOST_LOTS);
+    if (refused != 0)
+        return refused;
     if (!sheet_right(&week, sheet))
         return 9;
     memcpy(order24, sheet->order, n);
@@ -457,18 +438,13 @@ uint32_t second_copy(SECOND_WEEK, const struct elurkantza_sheet *sheet, uint8_t 
     return 0;
 }
 
-uint32_t second_save(SECOND_WEEK, struct elurkantza_sheet *sheet, uint32_t copy, const uint8_t *moves,
+uint32_t second_save(ELURKANTZA_WEEK, struct elurkantza_sheet *sheet, uint32_t copy, const uint8_t *moves,
                      size_t moves_len)
 {
     const struct week week = LENT_WEEK;
-    if (!numbers_right(&week))
-        return 1;
-    if (!lengths_right(&week))
-        return 2;
-    if (!words_right(&week))
-        return 3;
-    if (!ties_right(&week))
-        return 4;
+    uint32_t refused = week_refusal(&week, true, true);
+    if (refused != 0)
+        return refused;
     if (!sheet_right(&week, sheet))
         return 9;
     if (copy > sheet->saves)
@@ -601,18 +577,13 @@ uint32_t second_read(const uint8_t *file, size_t file_len, uint32_t *numbers6, s
     return 0;
 }
 
-uint32_t second_write(SECOND_WEEK, uint8_t *file, size_t file_len)
+uint32_t second_write(ELURKANTZA_WEEK, uint8_t *file, size_t file_len)
 {
     const struct week week = LENT_WEEK;
     uint8_t content[MOST_BLOCKS * CONTENT] = {0}, *at = content;
-    if (!numbers_right(&week))
-        return 1;
-    if (!lengths_right(&week) || file_len != blocks_needed(n) * BLOCK)
-        return 2;
-    if (!words_right(&week))
-        return 3;
-    if (!ties_right(&week))
-        return 4;
+    uint32_t refused = week_refusal(&week, true, file_len == blocks_needed(n) * BLOCK);
+    if (refused != 0)
+        return refused;
     const uint32_t numbers[6] = {n, a, b, alternative, gap, helper};
     for (int i = 0; i < 6; i++)
         *at++ = (uint8_t)numbers[i];

@@ -2,20 +2,14 @@
 #ifndef WEEKS_H
 #define WEEKS_H
 
+#include "paper.h"
+
 #include <stdbool.h>
 #include <stddef.h>
 #include <stdint.h>
 
 enum {
-    MOST_LOTS = 24,
-    SLOTS = 16,
-    MOST_TIE_WORDS = MOST_LOTS * MOST_LOTS * SLOTS,
-    MOST_ROWS = 300,
-    MOST_SAVES = 65535,
-    BLOCK = 512,
-    CONTENT = 504,
-    CHECKED = 508,
-    MOST_FILE = 18 * BLOCK,
+    MOST_FILE = MOST_BLOCKS * BLOCK,
     FILE_ROOM = MOST_FILE + 2 * BLOCK,
     ROOM = 32,                              /* lots that a damaged week's tables have room for */
     ROOM_TIES = ROOM * ROOM * SLOTS,

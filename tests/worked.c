@@ -163,8 +163,8 @@ static void hash_vectors(void)
         const char *text;
         uint32_t hash;
     } vectors[] = {
-        {"", 0x811c9dc5}, {"a", 0xe40c292c}, {"fo", 0x6222e842}, {"foo", 0xa9f37ed7},
-        {"foob", 0x3f5076ef}, {"fooba", 0x39aaa18a}, {"foobar", 0xbf9cf968},
+        {"", 0x811c9dc5}, {"a", 0xe40c292c}, {"b", 0xe70c2de5}, {"c", 0xe60c2c52}, {"fo", 0x6222e842},
+        {"foo", 0xa9f37ed7}, {"foob", 0x3f5076ef}, {"fooba", 0x39aaa18a}, {"foobar", 0xbf9cf968},
     };
     for (size_t i = 0; i < sizeof vectors / sizeof *vectors; i++) {
         const char *text = vectors[i].text;
