@@ -1,3 +1,4 @@
 pub mod Cut
 pub mod Hopes
 pub mod Moves
+pub mod Reasons
