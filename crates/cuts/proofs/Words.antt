@@ -24,11 +24,11 @@ use Rattle.cuts.specs.Hopes.{suits, isLeft, Forward, any, lives, alive, 
 use Rattle.cuts.proofs.Hopes.{suits-free, suits-with, suits-else, suits-own, suits-make, suits-at, suits-read, left-domain, left-suits, lives-here, lives-free}
 
 -- slots over 15 are in no word
-bit-high : (y v : ℕ) → 16 ≤ v → bitOf y v ≡ false
+pub bit-high : (y v : ℕ) → 16 ≤ v → bitOf y v ≡ false
 unfolding bitOf
 bit-high y v h = rw (le-ltb v 16 h)
 
-tie-bit : (R : Rules) (p v q w : ℕ) → bitOf (tieWord (R .lots) (R .ties) p v q) w ≡ together R p v q w
+pub tie-bit : (R : Rules) (p v q w : ℕ) → bitOf (tieWord (R .lots) (R .ties) p v q) w ≡ together R p v q w
 unfolding together
 tie-bit R p v q w = refl
 

@@ -57,3 +57,14 @@ module _ (k : ℕ) (f : ℕ → Bool) where
   pub scan-picked : (v : ℕ) → v ≤ k → Picked k f v (scanFrom k f v)
   unfolding scanFrom
   scan-picked v h = picks (k - v) v (omega arith)
+
+-- two tests that agree give the same
+
+scan-same : (f g : ℕ → Bool) (c v : ℕ) → ((j : ℕ) → v ≤ j → j < v + c → f j ≡ g j) → scan f c v ≡ scan g c v
+unfolding scan
+scan-same f g zero v h = refl
+scan-same f g (suc c) v h = rw (h v (omega arith) (omega arith), scan-same f g c (suc v) (λ j l m. h j (omega arith) (omega arith)))
+
+pub scan-cong : (k : ℕ) (f g : ℕ → Bool) (v : ℕ) → ((j : ℕ) → j < k → f j ≡ g j) → scanFrom k f v ≡ scanFrom k g v
+unfolding scanFrom
+scan-cong k f g v h = scan-same f g (k - v) v (λ j l m. h j (omega arith))

@@ -1,21 +1,21 @@
--- Words of slots: a word is known by its bits, and what `&` says of the bits. And places in the tie table.
+-- Words of slots: a word is known by its bits, and what `&` and `|` say of the bits. And places in the tie table.
 -- Assumes nothing.
 use mathlib.Core.Path.{_≡_, refl, sym, _∙_, ap}
-use mathlib.Core.Bool.{Bool, true, false, _&&_}
+use mathlib.Core.Bool.{Bool, true, false, _&&_, _||_}
 use Prim.Native.Nat.{ℕ, zero, suc, _*_, _/_, _%_, _^_, _≤_, _<_}
 use native.Mathlib.Nat.{mod-lt, mul-le-mul, div-div-eq-div-mul, pow-succ', div-one, zero-div}
 use native.Mathlib.Omega.{arith}
 use mathlib.Core.List.{List}
 use lib.Dec.{eqb, ltb}
 use lib.ListN.{length, getD, List·getD-eq-default}
-use lib.Bits.{bitAnd, and-shr, and-mod, and-le-l}
+use lib.Bits.{bitAnd, bitOr, and-shr, and-mod, and-le-l, or-shr, or-mod}
 use borrow.Author.Tests.{eqb-true, eq-eqb, lt-ltb, ltb-true}
 use Rattle.lex.specs.Every.{imp, every}
 use Rattle.lex.proofs.Every.{same-truth, false-of, imp-in, imp-out, every-true, every-at, and-left, and-right}
 use Rattle.week.specs.Rules.{bitOf, inside}
 
 -- the half of a word has its bits, one place lower
-half-bit : (x v : ℕ) → x / 2 / 2 ^ v ≡ x / 2 ^ suc v
+pub half-bit : (x v : ℕ) → x / 2 / 2 ^ v ≡ x / 2 ^ suc v
 half-bit x v = div-div-eq-div-mul x 2 (2 ^ v) ∙ ap (λ (m : ℕ). x / m) (sym (pow-succ' 2 v))
 
 -- two numbers below 2 ^ k with the same k bits are one
@@ -35,6 +35,15 @@ digit-and (suc zero) zero h g = refl
 digit-and (suc zero) (suc zero) h g = refl
 digit-and (suc zero) (suc (suc b)) h g = absurd (omega arith)
 digit-and (suc (suc a)) b h g = absurd (omega arith)
+
+digit-or : (a b : ℕ) → a < 2 → b < 2 → eqb (bitOr a b) 1 ≡ (eqb a 1 || eqb b 1)
+digit-or zero zero h g = refl
+digit-or zero (suc zero) h g = refl
+digit-or zero (suc (suc b)) h g = absurd (omega arith)
+digit-or (suc zero) zero h g = refl
+digit-or (suc zero) (suc zero) h g = refl
+digit-or (suc zero) (suc (suc b)) h g = absurd (omega arith)
+digit-or (suc (suc a)) b h g = absurd (omega arith)
 
 digit-keeps : (a b : ℕ) → a < 2 → b < 2 → (a ≡ 1 → b ≡ 1) → bitAnd a b ≡ a
 digit-keeps zero b h g e = refl
@@ -56,6 +65,20 @@ module _ (x y v : ℕ) where
       ∙ spread (ltb v 16) (eqb (x / 2 ^ v % 2) 1) (eqb (y / 2 ^ v % 2) 1)
     where
       spread : (p q r : Bool) → (p && (q && r)) ≡ ((p && q) && (p && r))
+      spread true q r = refl
+      spread false q r = refl
+
+  -- the bits of a join
+  pub bit-or : bitOf (bitOr x y) v ≡ (bitOf x v || bitOf y v)
+  unfolding bitOf
+  bit-or =
+      ap (λ (t : Bool). ltb v 16 && t) (ap (λ (m : ℕ). eqb m 1) or-at ∙ digit-or (x / 2 ^ v % 2) (y / 2 ^ v % 2) (digit-lt x) (digit-lt y))
+      ∙ spread (ltb v 16) (eqb (x / 2 ^ v % 2) 1) (eqb (y / 2 ^ v % 2) 1)
+    where
+      or-at : bitOr x y / 2 ^ v % 2 ≡ bitOr (x / 2 ^ v % 2) (y / 2 ^ v % 2)
+      or-at = ap (λ (m : ℕ). m % 2) (or-shr x y v) ∙ or-mod (x / 2 ^ v) (y / 2 ^ v) 1
+
+      spread : (p q r : Bool) → (p && (q || r)) ≡ ((p && q) || (p && r))
       spread true q r = refl
       spread false q r = refl
 
