@@ -1,0 +1,90 @@
+// Room: lots that may never stand in one slot, a group, need as many slots as they are. A partial order in which the lots of a group that are not placed
+// have fewer slots left, together, is dead; and so is a partial repair, where they have fewer beside the moved lots than those that may not move.
+// A slot over 15 means that a lot is not placed, or its move not decided. A forward word has the slots that are left to a lot beside the placed ones.
+use week::Lot;
+use week::Slot;
+ghost use mathlib.Core.Path.{_≡_};
+ghost use Prim.Native.Nat.{_≤_};
+ghost use lib.ListN.{getD};
+ghost use Rattle.lex.specs.Scan.{scanFrom};
+ghost use Rattle.room.specs.Grouped.{apart, bears, takesIn, Grouped};
+
+// Whether two lots may never stand in one slot.
+fn is_apart(n: u32, ties: &[u16], p: Lot, q: Lot) -> bool
+    ensures { λ r. ⌜ r ≡ apart n (now (ties .entry)) (p .0) (q .0) ⌝ }
+{
+    let mut v: u8 = 0;
+    while v < 16 {
+        if week::may_stand(n, ties, p, Slot(v), q, Slot(v)) {
+            return false;
+        }
+        v += 1;
+    }
+    true
+}
+
+// A lot's group; 0 beyond the end.
+fn group_of(groups: &[u8], p: Lot) -> Lot
+    ensures { λ r. ⌜ r .0 ≡ getD (now (groups .entry)) (p .0) 0 ⌝ }
+{
+    let g = week::slot_in(groups, p);
+    Lot(g.0)
+}
+
+// Whether lot q does not keep lot p out of group g: it is not in it, or the two may never stand in one slot.
+fn is_borne(n: u32, ties: &[u16], groups: &[u8], p: Lot, g: Lot, q: Lot) -> bool
+    ensures { λ r. ⌜ r ≡ bears n (now (ties .entry)) (now (groups .entry)) (p .0) (g .0) (q .0) ⌝ }
+{
+    if group_of(groups, q).0 != g.0 {
+        return true;
+    }
+    is_apart(n, ties, q, p)
+}
+
+// Whether lot g begins a group, and no lot of it before p may ever stand in one slot with p.
+fn takes_in(n: u32, ties: &[u16], groups: &[u8], p: Lot, g: Lot) -> bool
+    ensures { λ r. ⌜ r ≡ takesIn n (now (ties .entry)) (now (groups .entry)) (p .0) (g .0) ⌝ }
+{
+    if group_of(groups, g).0 != g.0 {
+        return false;
+    }
+    let last = p.0;
+    let mut q: u8 = 0;
+    while q < last {
+        if !is_borne(n, ties, groups, p, g, Lot(q)) {
+            return false;
+        }
+        q += 1;
+    }
+    true
+}
+
+// The group of a lot, from those of the lots before it: the first that takes it in, or its own.
+fn first_group(n: u32, ties: &[u16], groups: &[u8], p: Lot) -> Lot
+    ensures { λ r. ⌜ r .0 ≡ scanFrom (p .0) (takesIn n (now (ties .entry)) (now (groups .entry)) (p .0)) 0 ⌝ }
+{
+    let last = p.0;
+    let mut g: u8 = 0;
+    while g < last {
+        if takes_in(n, ties, groups, p, Lot(g)) {
+            return Lot(g);
+        }
+        g += 1;
+    }
+    Lot(g)
+}
+
+// Each lot's group, numbered by its lowest lot: no two lots of a group may ever stand in one slot.
+pub fn groups(n: u32, ties: &[u16]) -> [u8; 24]
+    requires { ⌜ n ≤ 24 ⌝ }
+    ensures { λ r. ⌜ Grouped n (now (ties .entry)) n r ⌝ }
+{
+    let mut made = [0u8; 24];
+    let mut p: u8 = 0;
+    while (p as u32) < n {
+        let g = first_group(n, ties, &made, Lot(p));
+        made[p as usize] = g.0;
+        p += 1;
+    }
+    made
+}
