@@ -7,7 +7,9 @@ ghost use mathlib.Core.Path.{_≡_};
 ghost use Prim.Native.Nat.{_≤_};
 ghost use lib.ListN.{getD};
 ghost use Rattle.lex.specs.Scan.{scanFrom};
+ghost use Rattle.parts.specs.Part.{placed};
 ghost use Rattle.room.specs.Grouped.{apart, bears, takesIn, Grouped};
+ghost use Rattle.room.specs.Words.{metWord, metBy, Made};
 
 // Whether two lots may never stand in one slot.
 fn is_apart(n: u32, ties: &[u16], p: Lot, q: Lot) -> bool
@@ -87,4 +89,70 @@ pub fn groups(n: u32, ties: &[u16]) -> [u8; 24]
         p += 1;
     }
     made
+}
+
+// Whether a lot is placed.
+fn is_placed(order: &[u8], p: Lot) -> bool
+    ensures { λ r. ⌜ r ≡ placed 16 (now (order .entry)) (p .0) ⌝ }
+{
+    let v = week::slot_in(order, p);
+    v.0 < 16
+}
+
+// A lot's word once lot x gets slot v.
+fn met_word(n: u32, ties: &[u16], words: &[u16], x: Lot, v: Slot, p: Lot) -> u16
+    ensures { λ r. ⌜ r ≡ metWord n (now (ties .entry)) (now (words .entry)) (x .0) (v .0) (p .0) ⌝ }
+{
+    let own = week::word_of(words, p);
+    if p.0 == x.0 {
+        return own;
+    }
+    own & week::tie_word(n, ties, x, v, p)
+}
+
+// Every lot's word once lot x gets slot v.
+pub fn met_words(n: u32, ties: &[u16], words: &[u16], x: Lot, v: Slot) -> [u16; 24]
+    requires { ⌜ n ≤ 24 ⌝ }
+    ensures { λ r. ⌜ Made n (metWord n (now (ties .entry)) (now (words .entry)) (x .0) (v .0)) r ⌝ }
+{
+    let mut met = [0u16; 24];
+    let mut p: u8 = 0;
+    while (p as u32) < n {
+        met[p as usize] = met_word(n, ties, words, x, v, Lot(p));
+        p += 1;
+    }
+    met
+}
+
+// Every lot's word, by value: those of the domains are the forward words where no lot is placed.
+fn first_words(n: u32, domain: &[u16]) -> [u16; 24]
+    requires { ⌜ n ≤ 24 ⌝ }
+    ensures { λ r. ⌜ Made n (λ p. getD (now (domain .entry)) p 0) r ⌝ }
+{
+    let mut words = [0u16; 24];
+    let mut p: u8 = 0;
+    while (p as u32) < n {
+        words[p as usize] = week::word_of(domain, Lot(p));
+        p += 1;
+    }
+    words
+}
+
+// What the lots that an order places leave of each lot's word: of the domains, the forward words.
+pub fn words_of(n: u32, domain: &[u16], ties: &[u16], order: &[u8]) -> [u16; 24]
+    requires { ⌜ n ≤ 24 ⌝ }
+    ensures { λ r. ⌜ Made n (metBy n (now (ties .entry)) (now (domain .entry)) (now (order .entry)) n) r ⌝ }
+{
+    let mut words = first_words(n, domain);
+    let mut p: u8 = 0;
+    while (p as u32) < n {
+        let x = Lot(p);
+        p += 1;
+        if !is_placed(order, x) {
+            continue;
+        }
+        let v = week::slot_in(order, x);
+        words = met_words(n, ties, &words, x, v);
+    }
+    words
 }
