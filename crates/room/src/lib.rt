@@ -10,6 +10,7 @@ ghost use Rattle.lex.specs.Scan.{scanFrom};
 ghost use Rattle.parts.specs.Part.{placed};
 ghost use Rattle.room.specs.Grouped.{apart, bears, takesIn, Grouped};
 ghost use Rattle.room.specs.Words.{metWord, metBy, Made};
+ghost use Rattle.room.specs.Room.{Counted, lacks, roomBy, slackOf, lesser, slackBy};
 
 // Whether two lots may never stand in one slot.
 fn is_apart(n: u32, ties: &[u16], p: Lot, q: Lot) -> bool
@@ -155,4 +156,117 @@ pub fn words_of(n: u32, domain: &[u16], ties: &[u16], order: &[u8]) -> [u16; 24]
         words = met_words(n, ties, &words, x, v);
     }
     words
+}
+
+// By group, how many of its lots wait and the slots that are left to any of them.
+struct Rooms {
+    lots: [u8; 24],
+    slots: [u16; 24],
+}
+
+// The waiting lots of every group and their slots, counted in one go.
+fn count_rooms(n: u32, order: &[u8], words: &[u16], groups: &[u8]) -> Rooms
+    requires { ⌜ n ≤ 24 ⌝ }
+    ensures { λ r. ⌜ Counted (now (order .entry)) (now (groups .entry)) (λ q. getD (now (words .entry)) q 0) n (r .lots) (r .slots) ⌝ }
+{
+    let mut lots = [0u8; 24];
+    let mut slots = [0u16; 24];
+    let mut p: u8 = 0;
+    while (p as u32) < n {
+        let q = Lot(p);
+        p += 1;
+        if is_placed(order, q) {
+            continue;
+        }
+        let g = group_of(groups, q).0;
+        if 24 <= g {
+            continue;
+        }
+        let word = week::word_of(words, q);
+        lots[g as usize] += 1;
+        slots[g as usize] |= word;
+    }
+    Rooms { lots, slots }
+}
+
+// How many slots too few a word has for some lots.
+fn lack(lots: u8, slots: u16) -> u32
+    ensures { λ r. ⌜ r ≡ lacks lots slots ⌝ }
+{
+    let few = u32::count_ones(slots as u32);
+    let many = lots as u32;
+    if many <= few {
+        return 0;
+    }
+    many - few
+}
+
+// Whether every group has room beside the decided moves m, if `left` more lots may move.
+pub fn has_room(
+    n: u32,
+    ties: &[u16],
+    order: &[u8],
+    words: &[u16],
+    groups: &[u8],
+    m: &[u8],
+    left: u32,
+) -> bool
+    requires { ⌜ n ≤ 24 ⌝ }
+    ensures { λ r. ⌜ r ≡ roomBy n (now (ties .entry)) (now (order .entry)) (now (words .entry)) (now (groups .entry)) (now (m .entry)) left ⌝ }
+{
+    let met = words_of(n, words, ties, m);
+    let all = count_rooms(n, order, &met, groups);
+    let lots = all.lots;
+    let slots = all.slots;
+    let mut g: u8 = 0;
+    while (g as u32) < n {
+        if left < lack(lots[g as usize], slots[g as usize]) {
+            return false;
+        }
+        g += 1;
+    }
+    true
+}
+
+// One more than the slots that some lots leave over of a word; 0 where they are too few, and 17 for fewer than two lots.
+fn slack_of(lots: u8, slots: u16) -> u32
+    ensures { λ r. ⌜ r ≡ slackOf lots slots ⌝ }
+{
+    if lots < 2 {
+        return 17;
+    }
+    let few = u32::count_ones(slots as u32) + 1;
+    let many = lots as u32;
+    if few <= many {
+        return 0;
+    }
+    few - many
+}
+
+// The lesser of two numbers.
+fn lesser_of(a: u32, b: u32) -> u32
+    ensures { λ r. ⌜ r ≡ lesser a b ⌝ }
+{
+    if b < a {
+        return b;
+    }
+    a
+}
+
+// How many slots more than lots the fullest group with two or more waiting lots has, plus 1; 0 where one has too few, and then no super solution extends
+// the order; 17 where there is no such group.
+pub fn slack(n: u32, order: &[u8], words: &[u16], groups: &[u8]) -> u32
+    requires { ⌜ n ≤ 24 ⌝ }
+    ensures { λ r. ⌜ r ≡ slackBy n (now (order .entry)) (now (words .entry)) (now (groups .entry)) ⌝ }
+{
+    let all = count_rooms(n, order, words, groups);
+    let lots = all.lots;
+    let slots = all.slots;
+    let mut least: u32 = 17;
+    let mut g: u8 = 0;
+    while (g as u32) < n {
+        least = lesser_of(least, slack_of(lots[g as usize], slots[g as usize]));
+        g += 1;
+    }
+    least
 }
