@@ -195,11 +195,11 @@ module _ (R : Rules) (C : Case) (on : ℕ → Bool) where
 
 -- The sets of lots that rows stand for
 
-abbrev below : ℕ → List ℕ → Bool
+abbrev pub below : ℕ → List ℕ → Bool
 below n A = everyOf (λ p. ltb p n) A
 
 -- their lots are lots of the week
-sets-below : (n a : ℕ) → everyOf (below n) (lostSets n a) ≡ true
+pub sets-below : (n a : ℕ) → everyOf (below n) (lostSets n a) ≡ true
 unfolding single pair everyOf
 sets-below n a =
     sets-make (below n) n a

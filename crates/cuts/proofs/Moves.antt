@@ -47,7 +47,7 @@ module _ (C : Case) (p : ℕ) where
   still = rw (eq-eqb stood stood refl, and-false)
 
   -- one that is not lost and goes elsewhere moves
-  goes-off : (v : ℕ) → isLost (C .lost) p ≡ false → eqb stood v ≡ false → moves C p v ≡ true
+  pub goes-off : (v : ℕ) → isLost (C .lost) p ≡ false → eqb stood v ≡ false → moves C p v ≡ true
   unfolding moves
   goes-off v e f = rw (e, f)
 
@@ -102,7 +102,7 @@ module _ (R : Rules) (C : Case) (on : ℕ → Bool) (m : List ℕ) where
   abbrev usesOn : ℕ → Bool
   usesOn p = on p && uses R C on m p
 
-  may-make : ((p : ℕ) → p < R .lots → on p ≡ true → sound R C on m p ≡ true) → count usesOn (R .lots) ≤ C .numbers .b → may R C on m ≡ true
+  pub may-make : ((p : ℕ) → p < R .lots → on p ≡ true → sound R C on m p ≡ true) → count usesOn (R .lots) ≤ C .numbers .b → may R C on m ≡ true
   unfolding may
   may-make h l = both (every-true soundOn (R .lots) (λ p i. imp-in (on p) (sound R C on m p) (h p i))) (le-leb (count usesOn (R .lots)) (C .numbers .b) l)
 

@@ -144,6 +144,18 @@ ones-count (suc n) k h =
     ∙ ap₂ _+_ (digit-one (k % 2) (mod-lt k (omega arith)) ∙ ap oneIf (sym (first-has k))) (ones-count n (k / 2) (omega arith) ∙ count-cong (has (k / 2)) (λ p. has k (suc p)) n (λ p l. half-has k p))
     ∙ sym (count-first (has k) n)
 
+count-member : (f : ℕ → Bool) (n p : ℕ) → p < n → f p ≡ true → 0 < count f n
+unfolding count
+count-member f zero p h e = absurd (omega arith)
+count-member f (suc n) p h e = elim (decLt p n) [
+  | yes l ↦ let a = count-member f n p l e in omega arith
+  | no l ↦ let z : n ≡ p = omega arith in rw (z, e) (omega arith)
+]
+
+-- a set with a lot has at least one
+pub ones-some : (n k p : ℕ) → k < 2 ^ n → has k p ≡ true → 0 < ones k
+ones-some n k p h e = let a = ones-count n k h in let b = count-member (has k) n p (has-low n k p h e) e in omega arith
+
 -- A set made lot after lot
 
 pub set-start : (f : ℕ → Bool) → SetOf 0 f 0

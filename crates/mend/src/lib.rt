@@ -8,10 +8,13 @@ ghost use mathlib.Core.Path.{_≡_};
 ghost use mathlib.Core.Bool.{true, false, cond};
 ghost use Prim.Native.Nat.{_-_, _^_, _≤_, _<_};
 ghost use lib.Bits.{bitOr};
+ghost use Rattle.week.specs.Tables.{week};
 ghost use Rattle.repair.specs.Found.{lotsOf};
 ghost use Rattle.repair.specs.Repair.{isLost};
 ghost use Rattle.mend.specs.Sets.{has, SetOf, minus};
-ghost use Rattle.mend.specs.Mend.{driven, stuck, Opens};
+ghost use Rattle.cuts.specs.Reasons.{Struck, Judges};
+ghost use Rattle.mend.specs.Mend.{driven, stuck, Opens, Moving, Roomed, Tells};
+ghost use Rattle.mend.specs.Room.{roomBy};
 
 // Whether the placed lots have a repair. `met` are lots that the search for it met, a hint for why there is none: any set is right.
 pub struct Mended {
@@ -147,4 +150,150 @@ fn open_word(n: u32, domain: &[u16], ties: &[u16], m: &[u8], x: Lot) -> u16
         q += 1;
     }
     own
+}
+
+// STAND-IN for room::has_room, until that crate is there: whether the lots still find room once m is decided and `left` more may move.
+fn has_room(
+    n: u32,
+    ties: &[u16],
+    order: &[u8],
+    words: &[u16],
+    groups: &[u8],
+    m: &[u8],
+    left: u32,
+) -> bool
+    requires { ⌜ n ≤ 24 ⌝ }
+    ensures { λ r. ⌜ r ≡ roomBy n (now (ties .entry)) (now (order .entry)) (now (words .entry)) (now (groups .entry)) (now (m .entry)) left ⌝ }
+{
+    true
+}
+
+// Whether the placed lots have a repair for the lost ones, with the moves m: the lots that have to move, `forced`, are decided one after the other.
+fn mends(
+    numbers: Numbers,
+    domain: &[u16],
+    loss: &[u16],
+    give: &[u16],
+    ties: &[u16],
+    order: &[u8],
+    words: &[u16],
+    groups: &[u8],
+    tight: bool,
+    lost: Lost,
+    m: [u8; 24],
+    gone: u32,
+    held: u32,
+    forced: u32,
+    left: u32,
+) -> Mended
+    requires { ⌜ Moving (week numbers (now domain) (now loss) (now give) (now ties)) (now order) (lotsOf lost) m gone held forced left × (tight ≡ true → Roomed (week numbers (now domain) (now loss) (now give) (now ties)) (now order) (now words) (now groups)) ⌝ }
+    ensures { λ r. ⌜ Tells (week numbers (now (domain .entry)) (now (loss .entry)) (now (give .entry)) (now (ties .entry))) (now (order .entry)) (lotsOf lost) m (r .is) ⌝ }
+{
+    let others = without(forced, gone);
+    let stopped = others & held;
+    if stopped != 0 {
+        return Mended {
+            is: false,
+            met: stopped,
+        };
+    }
+    if left < u32::count_ones(others) {
+        return Mended {
+            is: false,
+            met: forced,
+        };
+    }
+    if forced == 0 {
+        if !tight {
+            return Mended { is: true, met: 0 };
+        }
+        if has_room(numbers.n, ties, order, words, groups, &m, left) {
+            return Mended { is: true, met: 0 };
+        }
+        return Mended {
+            is: false,
+            met: 0xff_ffff,
+        };
+    }
+    let x = next_lot(gone, forced);
+    let at = x.0;
+    let own = open_word(numbers.n, domain, ties, &m, x);
+    let after = left_after(lost, x, left);
+    let here = only(x);
+    let rest = without(forced, here);
+    let mut met = here;
+    let mut v: u8 = 0;
+    while v < 16 {
+        let to = v;
+        v += 1;
+        if !week::bit(own, Slot(to)) {
+            continue;
+        }
+        if !repair::may_go(numbers, give, order, lost, x, Slot(to)) {
+            continue;
+        }
+        let mut moved = m;
+        moved[at as usize] = to;
+        let driven = clash_set(numbers.n, ties, order, &moved, x, Slot(to));
+        let found = mends(
+            numbers,
+            domain,
+            loss,
+            give,
+            ties,
+            order,
+            words,
+            groups,
+            tight,
+            lost,
+            moved,
+            gone,
+            held,
+            rest | driven,
+            after,
+        );
+        if found.is {
+            return found;
+        }
+        met = met | found.met;
+    }
+    Mended { is: false, met }
+}
+
+// Whether the placed lots have a repair for a loss that breaks them; if not, no super solution extends the order. Where `tight`, the room that is left to
+// the other lots is asked too: `words` has the slots left to each lot, and no two lots of one group may stand in one slot.
+pub fn has_repair(
+    numbers: Numbers,
+    domain: &[u16],
+    loss: &[u16],
+    give: &[u16],
+    ties: &[u16],
+    order: &[u8],
+    words: &[u16],
+    groups: &[u8],
+    tight: bool,
+    lost: Lost,
+) -> Mended
+    requires { ⌜ Struck (week numbers (now domain) (now loss) (now give) (now ties)) (now order) (lotsOf lost) × (tight ≡ true → Roomed (week numbers (now domain) (now loss) (now give) (now ties)) (now order) (now words) (now groups)) ⌝ }
+    ensures { λ r. ⌜ Judges (week numbers (now (domain .entry)) (now (loss .entry)) (now (give .entry)) (now (ties .entry))) (now (order .entry)) (lotsOf lost) (r .is) ⌝ }
+{
+    let held = held_set(numbers.n, give, order);
+    let gone = gone_set(lost);
+    mends(
+        numbers,
+        domain,
+        loss,
+        give,
+        ties,
+        order,
+        words,
+        groups,
+        tight,
+        lost,
+        [16; 24],
+        gone,
+        held,
+        gone,
+        numbers.b,
+    )
 }

@@ -34,7 +34,7 @@ module _ (n k : ℕ) (s : List ℕ) (p v : ℕ) where
 -- How many lots are not placed
 
 -- two tests that differ at most at x
-count-one : (f g : ℕ → Bool) (x n : ℕ) → x < n → ((q : ℕ) → q ≢ x → f q ≡ g q) → count f n + oneIf (g x) ≡ count g n + oneIf (f x)
+pub count-one : (f g : ℕ → Bool) (x n : ℕ) → x < n → ((q : ℕ) → q ≢ x → f q ≡ g q) → count f n + oneIf (g x) ≡ count g n + oneIf (f x)
 unfolding count
 count-one f g x zero h e = absurd (omega arith)
 count-one f g x (suc n) h e = elim (decLt x n) [
