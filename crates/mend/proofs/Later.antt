@@ -1,9 +1,9 @@
 -- Repairs, for a loss A, of the super solutions that extend s: each is a partial repair of the lots that s places; and where s is struck by A and there is none,
 -- no super solution extends s. Assumes nothing.
 use mathlib.Core.Path.{_≡_, refl, sym, _∙_, ap}
-use mathlib.Core.Bool.{Bool, true, false, _&&_, _||_}
+use mathlib.Core.Bool.{Bool, true, false, _||_}
 use mathlib.Core.List.{List, [], _∷_}
-use Prim.Native.Nat.{ℕ, _≤_, _<_}
+use Prim.Native.Nat.{ℕ, _<_}
 use native.Mathlib.Nat.{le-refl}
 use native.Mathlib.Omega.{arith}
 use lib.Dec.{eqb, ltb}
@@ -23,7 +23,6 @@ use Rattle.robust.proofs.Rows.{every-row}
 use Rattle.parts.specs.Part.{placed, Extends, Needed}
 use Rattle.cuts.specs.Cut.{whole, RepairsOn}
 use Rattle.cuts.specs.Moves.{may}
-use Rattle.cuts.specs.Hopes.{Supers}
 use Rattle.cuts.specs.Reasons.{None, asked, Struck, Later}
 use Rattle.cuts.proofs.Cut.{mends-whole, mends-shrink, below, sets-below}
 use Rattle.cuts.proofs.Moves.{may-needed}

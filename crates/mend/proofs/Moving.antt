@@ -13,30 +13,30 @@ use lib.Dec.{eqb}
 use lib.Pow.{pow-lt}
 use lib.ListN.{length, getD, set, replicate, length-set, getD-replicate}
 use lib.Seq.{getD-set-same, getD-set-other}
-use borrow.Author.Tests.{ltb-true, ltb-false, lt-ltb, le-ltb, eq-eqb, ne-eqb, not-true, not-false}
+use borrow.Author.Tests.{ltb-true, ltb-false, lt-ltb, le-ltb, eq-eqb, ne-eqb, not-true}
 use Rattle.lex.specs.Every.{imp, every, oneIf, count}
-use Rattle.lex.proofs.Every.{both, and-left, and-right, false-of, not-both, or-neither, same-truth, imp-in, imp-out, every-true, every-at, count-cong}
+use Rattle.lex.proofs.Every.{both, and-left, and-right, false-of, not-both, same-truth, imp-in, imp-out, every-true, every-at}
 use Rattle.week.specs.Rules.{Rules, bitOf, inDomain, tieWord, together}
-use Rattle.week.specs.Tables.{Week, lots, pairRules, refusal}
+use Rattle.week.specs.Tables.{Week, lots, pairRules}
 use Rattle.week.proofs.Rules.{Symmetric}
 use Rattle.week.proofs.Tables.{accepted}
 use Rattle.repair.specs.declared.Lost.{Lost}
 use Rattle.repair.specs.Found.{lotsOf}
 use Rattle.repair.specs.Repair.{Case, isLost, mayGo, moves}
-use Rattle.repair.proofs.Mends.{lost-either, moves-lost}
-use Rattle.parts.specs.Part.{placed, unplaced, Extends, Empty}
+use Rattle.repair.proofs.Mends.{lost-either}
+use Rattle.parts.specs.Part.{placed, unplaced}
 use Rattle.parts.proofs.Part.{count-one, count-place}
 use Rattle.parts.proofs.Slots.{Above, above-all, above-next, above-fails}
-use Rattle.cuts.specs.Hopes.{suits, suitsOn, alive}
+use Rattle.cuts.specs.Hopes.{suits, suitsOn}
 use Rattle.cuts.specs.Moves.{mayLeave, calm, lands, sound, uses, may, hasTo, Settled}
-use Rattle.cuts.specs.Reasons.{None, asked, Struck, Judges, Later, Spent}
+use Rattle.cuts.specs.Reasons.{asked, Struck, Judges, Later, Spent}
 use Rattle.cuts.proofs.Cut.{KeepsOn, count-fewer}
 use Rattle.cuts.proofs.Hopes.{suits-self, suits-free, suits-with, suits-else, suits-make, suits-at, suits-read, suits-own, alive-keeps}
 use Rattle.cuts.proofs.Moves.{goes-off, sound-decided, uses-decided, sound-undecided, uses-undecided, at-rest, Lands, lands-read, lands-make, may-make, sound-at, few-uses, may-out}
 use Rattle.cuts.proofs.Settled.{settled-mended}
 use Rattle.mend.specs.Sets.{has, SetOf, minus}
 use Rattle.mend.specs.Mend.{driven, stuck, opens, Opens, Moving, Tells}
-use Rattle.mend.proofs.Sets.{has-and, has-or, has-minus, has-one, has-low, has-zero, part-has, minus-low, member, ones-count, ones-some}
+use Rattle.mend.proofs.Sets.{has-and, has-or, has-minus, has-one, has-low, has-zero, minus-low, member, ones-count, ones-some}
 use Rattle.mend.proofs.Later.{later-needed, lost-lot, lost-placed, struck-none}
 
 -- Counting
@@ -422,8 +422,8 @@ blank : (p : ℕ) → p < 24 → 16 ≤ getD (replicate 24 16) p 0
 blank p l = rw (getD-replicate {A = ℕ} 24 p 16 0 l) (omega arith)
 
 module _ (W : Week) (s : List ℕ) (L : Lost) (c : Struck W s (lotsOf L)) where
-  week-few : lots W ≤ 24
-  week-few = accepted W (c .fine) .limits .few
+  pub start-few : lots W ≤ 24
+  start-few = accepted W (c .fine) .limits .few
 
   first-lost : isLost (lotsOf L) (L .0 .0) ≡ true
   first-lost = lost-either L (L .0 .0) ∙ rw (eq-eqb (L .0 .0) (L .0 .0) refl)
@@ -432,7 +432,7 @@ module _ (W : Week) (s : List ℕ) (L : Lost) (c : Struck W s (lotsOf L)) where
   last-lost = lost-either L (L .1 .0) ∙ rw (eq-eqb (L .1 .0) (L .1 .0) refl, or-true)
 
   pub start-lots : (L .0 .0 < 24) × (L .1 .0 < 24)
-  start-lots = let a = lost-lot W s (lotsOf L) c (L .0 .0) first-lost in let b = lost-lot W s (lotsOf L) c (L .1 .0) last-lost in let d = week-few in (omega arith, omega arith)
+  start-lots = let a = lost-lot W s (lotsOf L) c (L .0 .0) first-lost in let b = lost-lot W s (lotsOf L) c (L .1 .0) last-lost in let d = start-few in (omega arith, omega arith)
 
   abbrev none : List ℕ
   none = replicate 24 16
@@ -441,7 +441,7 @@ module _ (W : Week) (s : List ℕ) (L : Lost) (c : Struck W s (lotsOf L)) where
   gone-lots = bitOr (2 ^ (L .0 .0)) (2 ^ (L .1 .0))
 
   idle : (p : ℕ) → p < lots W → 16 ≤ getD none p 0
-  idle p l = blank p (let a = week-few in omega arith)
+  idle p l = blank p (let a = start-few in omega arith)
 
   gone-set : SetOf (lots W) (isLost (lotsOf L)) gone-lots
   gone-set = record {

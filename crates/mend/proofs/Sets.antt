@@ -2,31 +2,24 @@
 -- Assumes nothing.
 use mathlib.Core.Path.{_≡_, refl, sym, _∙_, ap, ap₂}
 use mathlib.Core.Bool.{Bool, true, false, _&&_, _||_, not}
-use Prim.Native.Nat.{ℕ, zero, suc, _+_, _*_, _/_, _%_, _^_, _≤_, _<_}
+use Prim.Native.Nat.{ℕ, zero, suc, _+_, _*_, _/_, _%_, _^_, _<_}
 use native.Mathlib.Decide.{decLt, ℕ-discrete}
-use native.Mathlib.Nat.{mod-lt, div-div-eq-div-mul, div-eq-of-lt, div-one, div-self, zero-div, pow-succ', pow-le-pow-right}
-use native.Mathlib.Numerals.{add-one}
+use native.Mathlib.Nat.{mod-lt, div-eq-of-lt, div-one, zero-div, pow-succ', pow-le-pow-right}
 use native.Mathlib.Omega.{arith}
 use lib.Bits.{bitAnd, bitOr, bitXor, and-shr, or-shr, xor-shr, and-mod, or-mod, xor-mod, and-le-l, or-lt, xor-lt}
 use lib.Count.{ones, ones-step, under, trailingZeros}
 use lib.Dec.{eqb}
 use lib.Pow.{pow-lt, shl-exact}
-use borrow.Author.Tests.{eqb-true, eqb-false, eq-eqb, ne-eqb}
+use borrow.Author.Tests.{eq-eqb, ne-eqb}
 use Rattle.lex.specs.Every.{oneIf, count}
 use Rattle.lex.proofs.Every.{and-left, not-both, false-of, count-cong}
+use Rattle.week.proofs.Words.{half-bit, digit-and}
 use Rattle.mend.specs.Sets.{has, SetOf, minus}
 
 -- Bit by bit
 
 digit-lt : (k p : ℕ) → k / 2 ^ p % 2 < 2
 digit-lt k p = mod-lt (k / 2 ^ p) (omega arith)
-
-digit-and : (a b : ℕ) → a < 2 → b < 2 → eqb (bitAnd a b) 1 ≡ (eqb a 1 && eqb b 1)
-digit-and zero b h g = refl
-digit-and (suc zero) zero h g = refl
-digit-and (suc zero) (suc zero) h g = refl
-digit-and (suc zero) (suc (suc b)) h g = absurd (omega arith)
-digit-and (suc (suc a)) b h g = absurd (omega arith)
 
 digit-or : (a b : ℕ) → a < 2 → b < 2 → eqb (bitOr a b) 1 ≡ (eqb a 1 || eqb b 1)
 digit-or zero b h g = refl
@@ -77,7 +70,7 @@ has-zero p = rw (zero-div (2 ^ p))
 -- the half of a set has its lots, each one lower
 half-has : (k p : ℕ) → has (k / 2) p ≡ has k (suc p)
 unfolding has
-half-has k p = ap (λ (m : ℕ). eqb (m % 2) 1) (div-div-eq-div-mul k 2 (2 ^ p) ∙ ap (λ (m : ℕ). k / m) (sym (pow-succ' 2 p)))
+half-has k p = ap (λ (m : ℕ). eqb (m % 2) 1) (half-bit k p)
 
 first-has : (k : ℕ) → has k 0 ≡ eqb (k % 2) 1
 unfolding has

@@ -29,7 +29,7 @@ digits-same (suc k) x y h g e =
 
 -- Bit by bit
 
-digit-and : (a b : ℕ) → a < 2 → b < 2 → eqb (bitAnd a b) 1 ≡ (eqb a 1 && eqb b 1)
+pub digit-and : (a b : ℕ) → a < 2 → b < 2 → eqb (bitAnd a b) 1 ≡ (eqb a 1 && eqb b 1)
 digit-and zero b h g = refl
 digit-and (suc zero) zero h g = refl
 digit-and (suc zero) (suc zero) h g = refl

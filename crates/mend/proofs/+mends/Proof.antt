@@ -11,14 +11,14 @@ use borrow.Author.Tests.{not-true, not-false}
 use borrow.Fn.Kinds.{In}
 use borrow.Fn.PlainCycle.{Measures, is, falls, and}
 use Rattle.lex.specs.Every.{count}
-use Rattle.week.specs.Tables.{Week, week}
+use Rattle.week.specs.Tables.{week}
 use Rattle.repair.specs.Found.{lotsOf}
 use Rattle.parts.specs.Part.{unplaced}
 use Rattle.parts.proofs.Slots.{Above, above-start}
 use Rattle.cuts.specs.Reasons.{Later}
 use Rattle.mend.specs.Sets.{minus}
 use Rattle.mend.proofs.Room.{room-none}
-use Rattle.mend.proofs.Moving.{moving-few, tells-held, tells-many, tells-done, tells-found, next-lot, next-inside, next-spare, passed-clash, passed-held, passed-no, passed-all, moving-next, moving-less}
+use Rattle.mend.proofs.Moving.{moving-few, tells-held, tells-many, tells-done, tells-found, next-lot, next-spare, passed-clash, passed-held, passed-no, passed-all, moving-next, moving-less}
 use Rattle.mend.proofs.mends.Reads as mends
 use Rattle.mend.proofs.mends.Kinds as mends-kinds
 use Rattle.mend.proofs.+mends.Lts-mends as mends-lts

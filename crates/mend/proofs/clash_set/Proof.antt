@@ -3,7 +3,7 @@
 use borrow.Author.Needs.{needs}
 use mathlib.Core.Path.{sym, _∙_, ap}
 use mathlib.Core.Logic.{⊎-elim}
-use Prim.Native.Nat.{ℕ, _-_, _≤_}
+use Prim.Native.Nat.{_-_, _≤_}
 use native.Mathlib.Omega.{arith}
 use lib.Bits.{bitOr}
 use Rattle.mend.specs.Sets.{SetOf}
@@ -41,9 +41,9 @@ loop-again c =
     let i = c .before .before .before .loop .inv .1 in (
       omega arith,
       ⊎-elim
-      (λ w. set-yes _ _ _ i _ (sym (c .before .is-driven .ensures) ∙ w .0 .taken) (w .2 ∙ ap (bitOr (c .before .before .before .loop .set)) (w .1 .ensures)))
-      (λ w. set-no _ _ _ i _ (sym (c .before .is-driven .ensures) ∙ w .0 .left) (w .1))
-      (c .if1 .came),
+          (λ w. set-yes _ _ _ i _ (sym (c .before .is-driven .ensures) ∙ w .0 .taken) (w .2 ∙ ap (bitOr (c .before .before .before .loop .set)) (w .1 .ensures)))
+          (λ w. set-no _ _ _ i _ (sym (c .before .is-driven .ensures) ∙ w .0 .left) (w .1))
+          (c .if1 .came),
     )
 
 returns : tie.Need-returns Inv-loop μ-loop

@@ -1,26 +1,27 @@
+-- `mend::has_repair` meets its contract.
+-- Assumes nothing.
+use Rattle.week.specs.Tables.{Week, week}
+use Rattle.mend.proofs.Moving.{start-few, start-lots, moving-start, judged}
 use Rattle.mend.proofs.has_repair.Statement.{statement}
 use Rattle.mend.proofs.has_repair.Tie as tie
-use Rattle.mend.proofs.has_repair.Reads as reads
-use Rattle.mend.proofs.has_repair.Lts as lts
-use Rattle.mend.proofs.gone_set.Reads as gone-set-reads
-use Rattle.mend.proofs.held_set.Reads as held-set-reads
-use Rattle.mend.proofs.mends.Reads as mends-reads
 
--- src/lib.rt:280:9
+-- the week that is asked about
+abbrev W : tie.Start → Week
+W s = week (s .args .numbers) (s .args .domain .now) (s .args .loss .now) (s .args .give .now) (s .args .ties .now)
+
 held-set-requires : tie.Need-held-set-requires
-held-set-requires c κs = ?
+held-set-requires c κs = let s = c .before .before .before .before .before .before .before in start-few (W s) (s .args .order .now) (s .args .lost) (s .pre .0)
 
--- src/lib.rt:281:9
 gone-set-requires : tie.Need-gone-set-requires
-gone-set-requires c κs = ?
+gone-set-requires c κs = let s = c .before .before .before .before .before .before .before .before in start-lots (W s) (s .args .order .now) (s .args .lost) (s .pre .0)
 
--- src/lib.rt:282:5
 mends-requires : tie.Need-mends-requires
-mends-requires c κs = ?
+mends-requires c κs =
+    let s = c .before .before .before .before .before .before .before .before .before in
+    (moving-start (W s) (s .args .order .now) (s .args .lost) (s .pre .0) (c .before .held-set .result) (c .before .held-set .ensures) (c .gone-set .result) (c .gone-set .ensures), s .pre .1)
 
--- src/lib.rt:265:1
 returns : tie.Need-returns
-returns c = ?
+returns c = let s = c .before .before .before .before .before .before .before .before .before .before in judged (W s) (s .args .order .now) (s .args .lost) (s .pre .0) (c .mends .result .is) (c .mends .ensures)
 
 pub has-repair-spec : {M : Type 1} → statement M
 has-repair-spec = tie.close (tie.spec held-set-requires gone-set-requires mends-requires returns)

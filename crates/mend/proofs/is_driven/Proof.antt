@@ -1,7 +1,6 @@
 -- `mend::is_driven` meets its contract.
 -- Assumes nothing.
 use borrow.Author.Needs.{needs}
-use native.Mathlib.Omega.{arith}
 use Rattle.mend.proofs.Tests.{driven-absent, driven-decided, driven-stands}
 use Rattle.mend.proofs.is_driven.Statement.{statement}
 use Rattle.mend.proofs.is_driven.Tie as tie

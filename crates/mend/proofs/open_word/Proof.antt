@@ -42,9 +42,9 @@ loop-again c =
     let l = c .before .before .before .before .loop in (
       omega arith,
       ⊎-elim
-      (λ w. opens-yes (s .n) (s .domain .now) (s .ties .now) (s .m .now) (s .x .0) (l .q) (l .own) (l .inv .1) _ _ _ (c .before .before .slot-in .ensures) (w .0 .taken) (w .1 .ensures) (w .2))
-      (λ w. opens-no (s .n) (s .domain .now) (s .ties .now) (s .m .now) (s .x .0) (l .q) (l .own) (l .inv .1) _ _ (c .before .before .slot-in .ensures) (w .0 .left) (w .1))
-      (c .if1 .came),
+          (λ w. opens-yes (s .n) (s .domain .now) (s .ties .now) (s .m .now) (s .x .0) (l .q) (l .own) (l .inv .1) _ _ _ (c .before .before .slot-in .ensures) (w .0 .taken) (w .1 .ensures) (w .2))
+          (λ w. opens-no (s .n) (s .domain .now) (s .ties .now) (s .m .now) (s .x .0) (l .q) (l .own) (l .inv .1) _ _ (c .before .before .slot-in .ensures) (w .0 .left) (w .1))
+          (c .if1 .came),
     )
 
 returns : tie.Need-returns Inv-loop μ-loop
