@@ -118,13 +118,13 @@ module _ {W : Week} {s A m : List ℕ} {gone held forced left : ℕ} (c : Moving
   n = lots W
 
   mirror : Symmetric R
-  mirror = accepted W (c .fine) .symmetric
+  mirror = accepted W (c .struck .fine) .symmetric
 
   pub moving-few : n ≤ 24
-  moving-few = accepted W (c .fine) .limits .few
+  moving-few = accepted W (c .struck .fine) .limits .few
 
   kept : KeepsOn R on n s
-  kept = alive-keeps R s (c .live)
+  kept = alive-keeps R s (c .struck .live)
 
   abbrev forcedAt : ℕ → Bool
   forcedAt p = on p && hasTo R C on m p
@@ -402,8 +402,7 @@ module _ {W : Week} {s A m : List ℕ} {gone held forced left : ℕ} (c : Moving
 
         pub moving-next : (k after rest : ℕ) → SetOf n (driven n (W .ties) s to x v) k → after ≡ cond (isLost A x) left (left - 1) → (isLost A x ≡ false → 0 < left) → rest ≡ bitOr (minus forced (2 ^ x)) k → Moving W s A to gone held rest after
         moving-next k after rest d f h g = record {
-          fine = c .fine;
-          live = c .live;
+          struck = c .struck;
           size = rw length-set (c .size);
           spent = spent-next after f h;
           land = land-next;
@@ -464,8 +463,7 @@ module _ (W : Week) (s : List ℕ) (L : Lost) (c : Struck W s (lotsOf L)) where
 
   pub moving-start : (held : ℕ) → SetOf (lots W) (stuck (W .give) s) held → (gone : ℕ) → gone ≡ gone-lots → Moving W s (lotsOf L) none gone held gone (W .numbers .b)
   moving-start held h gone e = rw e (record {
-    fine = c .fine;
-    live = c .live;
+    struck = c;
     size = refl;
     spent = record { among = λ p l g. absurd (let a = idle p l in omega arith); spent = let a = count-none (λ p. placed 16 none p && moves (asked W s (lotsOf L)) p (getD none p 0)) (lots W) (λ p l. rw (le-ltb (getD none p 0) 16 (idle p l))) in omega arith };
     land = λ p l g. absurd (let a = idle p l in omega arith);

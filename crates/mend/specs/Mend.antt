@@ -7,13 +7,13 @@ use Prim.Native.Nat.{ℕ, _<_}
 use lib.ListN.{length, getD}
 use Rattle.lex.specs.Every.{imp, every}
 use Rattle.week.specs.Rules.{bitOf, tieWord}
-use Rattle.week.specs.Tables.{Week, lots, pairRules, refusal}
+use Rattle.week.specs.Tables.{Week, lots, pairRules}
 use Rattle.repair.specs.Repair.{isLost}
 use Rattle.parts.specs.Part.{placed, unplaced, Extends}
 use Rattle.cuts.specs.Cut.{mendedOn}
-use Rattle.cuts.specs.Hopes.{Forward, alive}
+use Rattle.cuts.specs.Hopes.{Forward}
 use Rattle.cuts.specs.Moves.{lands, hasTo}
-use Rattle.cuts.specs.Reasons.{asked, Later, Exclusive, Spent}
+use Rattle.cuts.specs.Reasons.{asked, Struck, Later, Exclusive, Spent}
 use Rattle.mend.specs.Sets.{SetOf}
 
 -- lot p is placed and not decided, and clashes where it stands with lot x in slot v
@@ -32,10 +32,9 @@ opens n domain ties m x k v = bitOf (getD domain x 0) v && every (λ q. imp (pla
 abbrev pub Opens : ℕ → List ℕ → List ℕ → List ℕ → ℕ → ℕ → ℕ → Type 0
 Opens n domain ties m x k w = (v : ℕ) → bitOf w v ≡ opens n domain ties m x k v
 
--- the week is accepted, each lot still has a slot, each decided lot may go where it goes, `left` more lots may move, and the sets are right
+-- s is struck by A, each decided lot may go where it goes, `left` more lots may move, and the sets are right
 pub record Moving (W : Week) (s A m : List ℕ) (gone held forced left : ℕ) : Type 0 where
-  pub fine : refusal W ≡ 0
-  pub live : alive (pairRules W) s ≡ true
+  pub struck : Struck W s A
   pub size : length m ≡ 24
   pub spent : Spent W s A m left
   pub land : (p : ℕ) → p < lots W → getD m p 0 < 16 → lands (pairRules W) (asked W s A) (placed 16 s) m p (getD m p 0) ≡ true

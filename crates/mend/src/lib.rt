@@ -14,7 +14,6 @@ ghost use Rattle.repair.specs.Repair.{isLost};
 ghost use Rattle.mend.specs.Sets.{has, SetOf, minus};
 ghost use Rattle.cuts.specs.Reasons.{Struck, Judges};
 ghost use Rattle.mend.specs.Mend.{driven, stuck, Opens, Moving, Roomed, Tells};
-ghost use Rattle.mend.specs.Room.{roomBy};
 
 // Whether the placed lots have a repair. `met` are lots that the search for it met, a hint for why there is none: any set is right.
 pub struct Mended {
@@ -152,22 +151,6 @@ fn open_word(n: u32, domain: &[u16], ties: &[u16], m: &[u8], x: Lot) -> u16
     own
 }
 
-// STAND-IN for room::has_room, until that crate is there: whether the lots still find room once m is decided and `left` more may move.
-fn has_room(
-    n: u32,
-    ties: &[u16],
-    order: &[u8],
-    words: &[u16],
-    groups: &[u8],
-    m: &[u8],
-    left: u32,
-) -> bool
-    requires { ⌜ n ≤ 24 ⌝ }
-    ensures { λ r. ⌜ r ≡ roomBy n (now (ties .entry)) (now (order .entry)) (now (words .entry)) (now (groups .entry)) (now (m .entry)) left ⌝ }
-{
-    true
-}
-
 // Whether the placed lots have a repair for the lost ones, with the moves m: the lots that have to move, `forced`, are decided one after the other.
 fn mends(
     numbers: Numbers,
@@ -207,13 +190,10 @@ fn mends(
         if !tight {
             return Mended { is: true, met: 0 };
         }
-        if has_room(numbers.n, ties, order, words, groups, &m, left) {
+        if room::has_room(numbers.n, ties, order, words, groups, &m, left) {
             return Mended { is: true, met: 0 };
         }
-        return Mended {
-            is: false,
-            met: 0xff_ffff,
-        };
+        return Mended { is: false, met: 0 };
     }
     let x = next_lot(gone, forced);
     let at = x.0;

@@ -17,13 +17,13 @@ use Rattle.parts.specs.Part.{unplaced}
 use Rattle.parts.proofs.Slots.{Above, above-start}
 use Rattle.cuts.specs.Reasons.{Later}
 use Rattle.mend.specs.Sets.{minus}
-use Rattle.mend.proofs.Room.{room-none}
+use Rattle.room.proofs.None.{room-none}
 use Rattle.mend.proofs.Moving.{moving-few, tells-held, tells-many, tells-done, tells-found, next-lot, next-spare, passed-clash, passed-held, passed-no, passed-all, moving-next, moving-less}
 use Rattle.mend.proofs.mends.Reads as mends
 use Rattle.mend.proofs.mends.Kinds as mends-kinds
 use Rattle.mend.proofs.+mends.Lts-mends as mends-lts
 use Rattle.mend.proofs.clash_set.Reads as clash-set-reads
-use Rattle.mend.proofs.has_room.Reads as has-room-reads
+use Rattle.room.proofs.has_room.Reads as has-room-reads
 use Rattle.mend.proofs.left_after.Reads as left-after-reads
 use Rattle.mend.proofs.next_lot.Reads as next-lot-reads
 use Rattle.mend.proofs.only.Reads as only-reads
@@ -100,7 +100,8 @@ mends-returns-4 t c = tells-done (c .before .before .before .before .before .bef
 mends-returns-5 : (t : ℕ) → mends-lts.Need-returns-5 (calls t) (mends-at t) mends.Post mends-Inv-loop mends-μ-loop
 mends-returns-5 t c =
     let s = c .before .before .before .before .before .before .before .before .before .before .before .before .before .before .before in
-    room-none (week (s .args .numbers) (s .args .domain .now) (s .args .loss .now) (s .args .give .now) (s .args .ties .now)) (s .args .order .now) (lotsOf (s .args .lost)) (s .args .words .now) (s .args .groups .now) (s .args .t11) (s .args .left) (s .pre .1 .0 .fine) (s .pre .1 .1 (not-false _ (c .before .before .before .if4 .left))) (s .pre .1 .0 .spent) (sym (c .before .has-room .ensures) ∙ c .if5 .left)
+    let given = s .pre .1 .1 (not-false _ (c .before .before .before .if4 .left)) in
+    room-none (week (s .args .numbers) (s .args .domain .now) (s .args .loss .now) (s .args .give .now) (s .args .ties .now)) (s .args .order .now) (lotsOf (s .args .lost)) (s .args .t11) (s .args .words .now) (s .args .groups .now) (s .args .left) (s .pre .1 .0 .struck) (given .forward) (given .exclusive) (s .pre .1 .0 .spent) (sym (c .before .has-room .ensures) ∙ c .if5 .left)
 
 mends-next-lot-requires : (t : ℕ) → mends-lts.Need-next-lot-requires (calls t) (mends-at t) mends.Post mends-Inv-loop mends-μ-loop
 mends-next-lot-requires t c κs = search needs
