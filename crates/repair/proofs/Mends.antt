@@ -17,11 +17,10 @@ use Rattle.lex.specs.Every.{every, count, oneIf, someOf}
 use Rattle.lex.specs.First.{Passes, always, isFound, orOld}
 use Rattle.lex.specs.Lists.{padded}
 use Rattle.lex.proofs.Dictionary.{under-all}
-use Rattle.lex.proofs.Every.{both, and-left, and-right, count-cong, Snoc, Closed, every-snoc, count-snoc, snoc-closed, snoc-link, snoc-and}
+use Rattle.lex.proofs.Every.{both, and-left, and-right, every-at, count-cong, Snoc, Closed, every-snoc, count-snoc, snoc-closed, snoc-and}
 use Rattle.lex.proofs.First.{first-meets, first-is, first-same, first-some}
 use Rattle.lex.proofs.Lists.{padded-wide, padded-take}
-use Rattle.lex.proofs.Search.{Space, passes-space}
-use Rattle.week.specs.Rules.{Rules, keeps, fits, keepsHalf}
+use Rattle.week.specs.Rules.{Rules, keeps, fits, lotFits, keepsHalf}
 use Rattle.week.proofs.Rules.{keeps-closed, keeps-below, fits-cong, half-snoc as keeps-snoc, half-below, Symmetric, keeps-half}
 use Rattle.repair.specs.declared.Lost.{Lost}
 use Rattle.repair.specs.Break.{single, pair}
@@ -208,8 +207,24 @@ module _ (R : Rules) (C : Case) where
       ∙ ap (λ (w : ℕ). count (movesAt C pre) (length pre) + oneIf (moves C (length pre) w)) (getD-append-seam pre v [] 0))
       ∙ leb-more (count (movesAt C pre) (length pre)) (oneIf (moves C (length pre) v)) (C .numbers .b)
 
+  -- the parts of what mends
+  pub record Half (r : List ℕ) : Type 0 where
+    pub fit : (q : ℕ) → q < length r → fits R r q (getD r q 0) ≡ true
+    pub go : (q : ℕ) → q < length r → goesAt C r q ≡ true
+    pub few : count (movesAt C r) (length r) ≤ C .numbers .b
+
+  pub half-parts : (r : List ℕ) → mendsHalf R C r ≡ true → Half r
+  unfolding mendsHalf keepsHalf lotFits
+  half-parts r e =
+      let f = and-right (keepsHalf R r) (goes r && few r) e in
+      record {
+        fit = λ q h. every-at (lotFits R r) (length r) q (and-left (keepsHalf R r) (goes r && few r) e) h;
+        go = λ q h. every-at (goesAt C r) (length r) q (and-left (goes r) (few r) f) h;
+        few = leb-true (count (movesAt C r) (length r)) (C .numbers .b) (and-right (goes r) (few r) f);
+      }
+
   -- one lot more
-  half-snoc : Snoc (mendsHalf R C) (λ pre v. mendsAt R C pre (length pre) v)
+  pub half-snoc : Snoc (mendsHalf R C) (λ pre v. mendsAt R C pre (length pre) v)
   unfolding mendsHalf mendsAt
   half-snoc =
       snoc-and (keepsHalf R) (λ r. goes r && few r) (λ pre v. fits R pre (length pre) v)
@@ -224,23 +239,16 @@ module _ (R : Rules) (C : Case) where
   unfolding mendsHalf keepsHalf every count
   half-nil = leb·zero (C .numbers .b)
 
-  at-take : (s : List ℕ) (d v : ℕ) → d ≤ length s → mendsAt R C (take d s) (length (take d s)) v ≡ mendsAt R C s d v
+  pub at-take : (s : List ℕ) (d v : ℕ) → d ≤ length s → mendsAt R C (take d s) (length (take d s)) v ≡ mendsAt R C s d v
   unfolding mendsAt movesAt
   at-take s d v h = rw (length-take-le d s h) (ap₂ _&&_ (fits-cong R (take d s) s d v (λ q l. getD-take d s q 0 l)) (rw (count-cong (movesAt C (take d s)) (movesAt C s) d (λ q l. ap (moves C q) (getD-take d s q 0 l)))))
-
-  -- the test of a slot, on a list whose first d places are the repair so far
-  pub half-link : (s : List ℕ) (d : ℕ) → d ≤ length s → mendsHalf R C (take d s) ≡ true → (v : ℕ) → mendsHalf R C (take d s ++ v ∷ []) ≡ mendsAt R C s d v
-  half-link s d h e v = snoc-link (mendsHalf R C) (λ pre v. mendsAt R C pre (length pre) v) half-snoc (take d s) e v ∙ at-take s d v h
 
   half-keeps : (r : List ℕ) → mendsHalf R C r ≡ true → keepsHalf R r ≡ true
   unfolding mendsHalf
   half-keeps r e = and-left (keepsHalf R r) (goes r && few r) e
 
-  half-low : (r : List ℕ) → mendsHalf R C r ≡ true → (i : ℕ) → i < length r → getD r i 0 < 16
+  pub half-low : (r : List ℕ) → mendsHalf R C r ≡ true → (i : ℕ) → i < length r → getD r i 0 < 16
   half-low r e = half-below R r (half-keeps r e)
-
-  pub half-space : Space (Passes (mendsHalf R C) always 16 (R .lots)) (R .lots) 16 (mendsHalf R C)
-  half-space = passes-space (mendsHalf R C) always 16 (R .lots) half-closed half-low
 
   pub half-passes : (r : List ℕ) → length r ≡ R .lots → mendsHalf R C r ≡ true → Passes (mendsHalf R C) always 16 (R .lots) r
   half-passes r n e = record { len = n; under = under-all r (half-low r e); good = e; final = refl }

@@ -9,7 +9,7 @@ use lib.ListN.{length, getD}
 use Rattle.lex.specs.Every.{imp, every, oneIf, count, someOf}
 use Rattle.lex.specs.First.{first, always}
 use Rattle.week.specs.declared.Numbers.{Numbers}
-use Rattle.week.specs.Rules.{Rules, bitOf, keeps, fits, keepsHalf}
+use Rattle.week.specs.Rules.{Rules, bitOf, together, keeps, fits, keepsHalf}
 
 -- what a repair is asked for: the numbers, the give words, the order that stands and the lost lots
 pub record Case : Type 0 where
@@ -75,3 +75,41 @@ mendsAt R C r p v = fits R r p v && (mayGo C p v && leb (count (movesAt C r) p +
 
 unfoldable pub repairHalf : Rules → Case → Option (List ℕ)
 repairHalf R C = first (mendsHalf R C) always 16 (R .lots)
+
+-- What the code passes over: where more lots must move than may, no repair begins so (proofs/Ahead.antt, `leads-space`)
+
+-- lot q may stay where it stands, with lot u in slot x: u stands there as before, or the two may stand together
+unfoldable pub stays : Rules → Case → ℕ → ℕ → ℕ → Bool
+stays R C q u x = eqb (getD (C .stands) u 0) x || together R q (getD (C .stands) q 0) u x
+
+unfoldable pub staysAt : Rules → Case → List ℕ → ℕ → ℕ → Bool
+staysAt R C r q u = stays R C q u (getD r u 0)
+
+-- lot q, later than p and not lost, cannot stay: the lots before p take the slots of r, and p takes v
+unfoldable pub mustMove : Rules → Case → List ℕ → ℕ → ℕ → ℕ → Bool
+mustMove R C r p v q = ltb p q && (not (isLost (C .lost) q) && not (stays R C q p v && every (staysAt R C r q) p))
+
+-- if lot q must move, it stands in a slot of its give word
+unfoldable pub mayMove : Rules → Case → List ℕ → ℕ → ℕ → ℕ → Bool
+mayMove R C r p v q = imp (mustMove R C r p v q) (bitOf (getD (C .give) q 0) (getD (C .stands) q 0))
+
+-- the lots that must move may, and with those that do they are at most b
+unfoldable pub fewAhead : Rules → Case → List ℕ → ℕ → ℕ → Bool
+fewAhead R C r p v =
+    every (mayMove R C r p v) (R .lots)
+    && leb (count (movesAt C r) p + oneIf (moves C p v) + count (mustMove R C r p v) (R .lots)) (C .numbers .b)
+
+-- asked only where lot p leaves its place
+unfoldable pub ahead : Rules → Case → List ℕ → ℕ → ℕ → Bool
+ahead R C r p v = eqb (getD (C .stands) p 0) v || fewAhead R C r p v
+
+unfoldable pub aheadAt : Rules → Case → List ℕ → ℕ → Bool
+aheadAt R C r p = ahead R C r p (getD r p 0)
+
+-- the beginning r of an order may lead to a repair
+unfoldable pub leads : Rules → Case → List ℕ → Bool
+leads R C r = mendsHalf R C r && every (aheadAt R C r) (length r)
+
+-- slot v for lot p, behind the slots that r gives the lots before p
+unfoldable pub leadsAt : Rules → Case → List ℕ → ℕ → ℕ → Bool
+leadsAt R C r p v = mendsAt R C r p v && ahead R C r p v

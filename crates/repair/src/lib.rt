@@ -9,8 +9,8 @@ ghost use lib.ListN.{length, getD, take};
 ghost use lib.Dec.{leb};
 ghost use Rattle.lex.specs.Every.{every, oneIf, count};
 ghost use Rattle.lex.specs.Scan.{scanFrom};
-ghost use Rattle.week.specs.Rules.{rules};
-ghost use Rattle.repair.specs.Repair.{case, isLost, replaces, yields, helps, mayGo, moves, goesAt, movesAt, mendsHalf, mendsAt, repairHalf};
+ghost use Rattle.week.specs.Rules.{rules, bitOf};
+ghost use Rattle.repair.specs.Repair.{case, isLost, replaces, yields, helps, mayGo, moves, goesAt, movesAt, mendsHalf, mendsAt, repairHalf, stays, staysAt, mustMove, fewAhead, leadsAt};
 ghost use Rattle.repair.specs.Found.{lotsOf, Holds};
 ghost use Rattle.repair.specs.Break.{LostList, lotBelow, lotAscends, lostOk, rowNumber, rowCount};
 ghost use Rattle.repair.specs.Service.{repairLengths, Repaired, rowNumbers, rowLengths, rowAnswer, rowPart};
@@ -196,7 +196,168 @@ fn mends_at(
     week::fits_at(numbers.n, domain, ties, to, p, v)
 }
 
-// The first slot from `from` on that lot p may take in a repair, behind the slots that `to` gives the lots before p; 16 or
+// Whether lot q may stay where it stands, with lot u in slot x: u stands there as before, or the two may stand together.
+fn stays_with(
+    numbers: Numbers,
+    domain: &[u16],
+    give: &[u16],
+    ties: &[u16],
+    order: &[u8],
+    lost: Lost,
+    q: Lot,
+    u: Lot,
+    x: Slot,
+) -> bool
+    ensures { λ r. ⌜ r ≡ stays (rules (numbers .n) (now (domain .entry)) (now (ties .entry))) (case numbers (now (give .entry)) (now (order .entry)) (lotsOf lost)) (q .0) (u .0) (x .0) ⌝ }
+{
+    let w = week::slot_in(order, u);
+    if w.0 == x.0 {
+        return true;
+    }
+    week::may_stand(numbers.n, ties, q, week::slot_in(order, q), u, x)
+}
+
+// Whether lot q may stay where it stands, with the first d lots where `to` has them.
+fn stays_behind(
+    numbers: Numbers,
+    domain: &[u16],
+    give: &[u16],
+    ties: &[u16],
+    order: &[u8],
+    lost: Lost,
+    to: &[u8],
+    d: u8,
+    q: Lot,
+) -> bool
+    ensures { λ r. ⌜ r ≡ every (staysAt (rules (numbers .n) (now (domain .entry)) (now (ties .entry))) (case numbers (now (give .entry)) (now (order .entry)) (lotsOf lost)) (now (to .entry)) (q .0)) d ⌝ }
+{
+    let mut u: u8 = 0;
+    while u < d {
+        if !stays_with(
+            numbers,
+            domain,
+            give,
+            ties,
+            order,
+            lost,
+            q,
+            Lot(u),
+            week::slot_in(to, Lot(u)),
+        ) {
+            return false;
+        }
+        u += 1;
+    }
+    true
+}
+
+// Whether lot q, later than p and not lost, cannot stay where it stands: `to` has the lots before p, and p goes to v.
+fn must_move(
+    numbers: Numbers,
+    domain: &[u16],
+    give: &[u16],
+    ties: &[u16],
+    order: &[u8],
+    lost: Lost,
+    to: &[u8],
+    p: Lot,
+    v: Slot,
+    q: Lot,
+) -> bool
+    ensures { λ r. ⌜ r ≡ mustMove (rules (numbers .n) (now (domain .entry)) (now (ties .entry))) (case numbers (now (give .entry)) (now (order .entry)) (lotsOf lost)) (now (to .entry)) (p .0) (v .0) (q .0) ⌝ }
+{
+    if q.0 <= p.0 {
+        return false;
+    }
+    if is_lost(lost, q) {
+        return false;
+    }
+    if !stays_with(numbers, domain, give, ties, order, lost, q, p, v) {
+        return true;
+    }
+    !stays_behind(numbers, domain, give, ties, order, lost, to, p.0, q)
+}
+
+// Whether a lot stands in a slot of its give word.
+fn gives(give: &[u16], order: &[u8], p: Lot) -> bool
+    ensures { λ r. ⌜ r ≡ bitOf (getD (now (give .entry)) (p .0) 0) (getD (now (order .entry)) (p .0) 0) ⌝ }
+{
+    week::bit(week::word_of(give, p), week::slot_in(order, p))
+}
+
+// Whether the later lots that must move may, and with the `moved` lots up to p that do they are at most b.
+fn few_ahead(
+    numbers: Numbers,
+    domain: &[u16],
+    give: &[u16],
+    ties: &[u16],
+    order: &[u8],
+    lost: Lost,
+    to: &[u8],
+    moved: u32,
+    p: Lot,
+    v: Slot,
+) -> bool
+    requires { ⌜ (moved ≡ count (movesAt (case numbers (now give) (now order) (lotsOf lost)) (now to)) (p .0) + oneIf (moves (case numbers (now give) (now order) (lotsOf lost)) (p .0) (v .0))) × ((moved ≤ numbers .b) × ((p .0 < numbers .n) × (numbers .n ≤ 24))) ⌝ }
+    ensures { λ r. ⌜ r ≡ fewAhead (rules (numbers .n) (now (domain .entry)) (now (ties .entry))) (case numbers (now (give .entry)) (now (order .entry)) (lotsOf lost)) (now (to .entry)) (p .0) (v .0) ⌝ }
+{
+    let mut all = moved;
+    let mut q = p.0 + 1;
+    while (q as u32) < numbers.n {
+        if must_move(numbers, domain, give, ties, order, lost, to, p, v, Lot(q)) {
+            if numbers.b <= all {
+                return false;
+            }
+            if !gives(give, order, Lot(q)) {
+                return false;
+            }
+            all += 1;
+        }
+        q += 1;
+    }
+    true
+}
+
+// How many lots move, where `moved` do so far and perhaps one more.
+fn one_more(moved: u32, more: bool) -> u32
+    requires { ⌜ moved < 24 ⌝ }
+    ensures { λ r. ⌜ r ≡ moved + oneIf more ⌝ }
+{
+    if more {
+        return moved + 1;
+    }
+    moved
+}
+
+// Whether a repair may begin with lot p in slot v, behind the slots that `to` gives the lots before p, of which `moved` move. Only
+// a lot that leaves its place makes others move.
+fn leads_at(
+    numbers: Numbers,
+    domain: &[u16],
+    give: &[u16],
+    ties: &[u16],
+    order: &[u8],
+    lost: Lost,
+    to: &[u8],
+    moved: u32,
+    p: Lot,
+    v: Slot,
+) -> bool
+    requires { ⌜ (moved ≡ count (movesAt (case numbers (now give) (now order) (lotsOf lost)) (now to)) (p .0)) × ((p .0 < numbers .n) × (numbers .n ≤ 24)) ⌝ }
+    ensures { λ r. ⌜ r ≡ leadsAt (rules (numbers .n) (now (domain .entry)) (now (ties .entry))) (case numbers (now (give .entry)) (now (order .entry)) (lotsOf lost)) (now (to .entry)) (p .0) (v .0) ⌝ }
+{
+    if !mends_at(numbers, domain, give, ties, order, lost, to, moved, p, v) {
+        return false;
+    }
+    let w = week::slot_in(order, p);
+    if w.0 == v.0 {
+        return true;
+    }
+    let all = one_more(moved, moves_to(numbers, give, order, lost, p, v));
+    few_ahead(numbers, domain, give, ties, order, lost, to, all, p, v)
+}
+
+// The first slot from `from` on with which a repair may go on for lot p, behind the slots that `to` gives the lots before p; 16 or
 // more where there is none.
 fn pick_slot(
     numbers: Numbers,
@@ -209,7 +370,8 @@ fn pick_slot(
     p: Lot,
     from: Slot,
 ) -> Slot
-    ensures { λ r. ⌜ r .0 ≡ scanFrom 16 (mendsAt (rules (numbers .n) (now (domain .entry)) (now (ties .entry))) (case numbers (now (give .entry)) (now (order .entry)) (lotsOf lost)) (now (to .entry)) (p .0)) (from .0) ⌝ }
+    requires { ⌜ (p .0 < numbers .n) × (numbers .n ≤ 24) ⌝ }
+    ensures { λ r. ⌜ r .0 ≡ scanFrom 16 (leadsAt (rules (numbers .n) (now (domain .entry)) (now (ties .entry))) (case numbers (now (give .entry)) (now (order .entry)) (lotsOf lost)) (now (to .entry)) (p .0)) (from .0) ⌝ }
 {
     let moved = count_moves(numbers, give, order, lost, to, p.0);
     let mut v = from.0;
@@ -217,7 +379,7 @@ fn pick_slot(
         if 16 <= v {
             break v;
         }
-        if mends_at(
+        if leads_at(
             numbers,
             domain,
             give,

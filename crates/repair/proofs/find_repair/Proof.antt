@@ -9,14 +9,15 @@ use Rattle.lex.specs.Lists.{padded}
 use Rattle.lex.proofs.Search.{left}
 use Rattle.lex.proofs.Turn.{State, Turn, state-start, turn-deeper, turn-deeper-less, turn-full, turn-padded, turn-good, turn-found, turn-last, turn-back, turn-back-less, turn-none}
 use Rattle.week.specs.Rules.{Rules, rules}
-use Rattle.repair.specs.Repair.{Case, case, mendsHalf, mendsAt}
+use Rattle.repair.specs.Repair.{Case, case, mendsHalf, leads, leadsAt}
 use Rattle.repair.specs.Found.{lotsOf}
-use Rattle.repair.proofs.Mends.{half-nil, half-link, half-space, half-passes, half-is}
+use Rattle.repair.proofs.Mends.{half-passes, half-is}
+use Rattle.repair.proofs.Ahead.{leads-nil, leads-link, leads-half, leads-space}
 use Rattle.repair.proofs.find_repair.Statement.{statement}
 use Rattle.repair.proofs.find_repair.Tie as tie
 
 abbrev Inv-lots : tie.InvT-lots
-Inv-lots numbers domain give ties order lost n slots₀ d₀ from₀ slots d from = State (Passes (mendsHalf (rules (numbers .n) domain ties) (case numbers give order (lotsOf lost))) always 16 (numbers .n)) (numbers .n) 24 16 (mendsHalf (rules (numbers .n) domain ties) (case numbers give order (lotsOf lost))) slots d from
+Inv-lots numbers domain give ties order lost n slots₀ d₀ from₀ slots d from = State (Passes (mendsHalf (rules (numbers .n) domain ties) (case numbers give order (lotsOf lost))) always 16 (numbers .n)) (numbers .n) 24 16 (leads (rules (numbers .n) domain ties) (case numbers give order (lotsOf lost))) slots d from
 
 abbrev μ-lots : tie.MeasureT-lots
 μ-lots numbers domain give ties order lost n slots₀ d₀ from₀ slots d from = left 16 (numbers .n) slots d from
@@ -37,12 +38,12 @@ R p = rules (start p .args .numbers .n) (start p .args .domain .now) (start p .a
 abbrev C : P → Case
 C p = case (start p .args .numbers) (start p .args .give .now) (start p .args .order .now) (lotsOf (start p .args .lost))
 
-turn : (p : P) → Turn (Passes (mendsHalf (R p) (C p)) always 16 (R p .lots)) (R p .lots) 24 16 (mendsHalf (R p) (C p)) (head p .lots .slots) (head p .lots .d) (head p .lots .from) (p .pick-slot .result .0)
+turn : (p : P) → Turn (Passes (mendsHalf (R p) (C p)) always 16 (R p .lots)) (R p .lots) 24 16 (leads (R p) (C p)) (head p .lots .slots) (head p .lots .d) (head p .lots .from) (p .pick-slot .result .0)
 turn p = record {
-  space = half-space (R p) (C p);
+  space = leads-space (R p) (C p);
   state = head p .lots .inv;
-  test = mendsAt (R p) (C p) (head p .lots .slots) (head p .lots .d);
-  link = half-link (R p) (C p) (head p .lots .slots) (head p .lots .d) (omega arith) (head p .lots .inv .good);
+  test = leadsAt (R p) (C p) (head p .lots .slots) (head p .lots .d);
+  link = leads-link (R p) (C p) (head p .lots .slots) (head p .lots .d) (omega arith) (head p .lots .inv .good);
   chosen = p .pick-slot .ensures;
 }
 
@@ -50,7 +51,7 @@ cast-n : tie.Need-cast-n Inv-lots μ-lots
 cast-n c = search needs
 
 lots-holds : tie.Need-lots-holds Inv-lots μ-lots
-lots-holds c = state-start (half-space _ _) 24 (c .before .before .before .before .before .pre .0) (c .before .before .before .before .before .pre .1) (half-nil _ _)
+lots-holds c = state-start (leads-space _ _) 24 (c .before .before .before .before .before .pre .0) (c .before .before .before .before .before .pre .1) (leads-nil _ _)
 
 slice-aggregate-pick-slot : tie.Need-slice-aggregate-pick-slot Inv-lots μ-lots
 slice-aggregate-pick-slot c = search needs
@@ -59,7 +60,7 @@ cast-from : tie.Need-cast-from Inv-lots μ-lots
 cast-from c = search needs
 
 pick-slot-requires : tie.Need-pick-slot-requires Inv-lots μ-lots
-pick-slot-requires c κs = search needs
+pick-slot-requires c κs = (c .before .lots .inv .depth, c .before .before .before .before .before .before .before .pre .1)
 
 array-write-slots : tie.Need-array-write-slots Inv-lots μ-lots
 array-write-slots c = search needs
@@ -70,7 +71,7 @@ add-d c = search needs
 returns : tie.Need-returns Inv-lots μ-lots
 returns c =
     let p = c .before .before in
-    let e = half-is (R p) (C p) (some (take (R p .lots) (set (head p .lots .slots) (head p .lots .d) (p .pick-slot .result .0)))) (turn-found (turn p) (half-passes (R p) (C p) _ (turn-full (turn p) (c .if2 .taken)) (turn-good (turn p) (c .before .if1 .taken) (c .if2 .taken))) (c .if2 .taken)) in
+    let e = half-is (R p) (C p) (some (take (R p .lots) (set (head p .lots .slots) (head p .lots .d) (p .pick-slot .result .0)))) (turn-found (turn p) (half-passes (R p) (C p) _ (turn-full (turn p) (c .if2 .taken)) (leads-half (R p) (C p) _ (turn-good (turn p) (c .before .if1 .taken) (c .if2 .taken)))) (c .if2 .taken)) in
     record { is = rw e; slots = rw e (turn-padded (turn p) (c .if2 .taken)) }
 
 lots-less : tie.Need-lots-less Inv-lots μ-lots

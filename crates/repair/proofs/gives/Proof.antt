@@ -1,0 +1,22 @@
+-- `repair::gives` meets its contract.
+-- Assumes nothing.
+use mathlib.Core.Path.{_∙_, ap₂}
+use borrow.Author.Needs.{needs}
+use Rattle.week.specs.Rules.{bitOf}
+use Rattle.repair.proofs.gives.Statement.{statement}
+use Rattle.repair.proofs.gives.Tie as tie
+
+word-of-requires : tie.Need-word-of-requires
+word-of-requires c κs = search needs
+
+slot-in-requires : tie.Need-slot-in-requires
+slot-in-requires c κs = search needs
+
+bit-requires : tie.Need-bit-requires
+bit-requires c κs = search needs
+
+returns : tie.Need-returns
+returns c = c .bit .ensures ∙ ap₂ bitOf (c .before .before .word-of .ensures) (c .before .slot-in .ensures)
+
+pub gives-spec : {M : Type 1} → statement M
+gives-spec = tie.close (tie.spec word-of-requires slot-in-requires bit-requires returns)
