@@ -320,12 +320,12 @@ pub fn write(
 ) -> u32
     ensures { λ r. ⌜ written r (now (file .exit)) ≡ writeOf (week numbers (now (domain .entry)) (now (loss .entry)) (now (give .entry)) (now (ties .entry))) (now (file .entry)) ⌝ }
 {
-    let judged = week::judge(numbers, domain, loss, give, ties);
+    let judged = tables::judge(numbers, domain, loss, give, ties);
     if judged == 1 {
         return 1;
     }
     let fits = file.len() == blocks_for(numbers.n) * 512;
-    let answer = week::join(true, fits, judged);
+    let answer = tables::join(true, fits, judged);
     if answer != 0 {
         return answer;
     }
@@ -548,7 +548,7 @@ fn lot_held(file: &[u8], n: u32, p: usize) -> bool
     requires { ⌜ n ≤ 24 ⌝ }
     ensures { λ r. ⌜ r ≡ lotOkAt (wordsIn (now (file .entry)) n 0) (wordsIn (now (file .entry)) n 1) (wordsIn (now (file .entry)) n 2) p ⌝ }
 {
-    week::lot_ok(
+    tables::lot_ok(
         lot_word(file, n, 0, p),
         lot_word(file, n, 1, p),
         lot_word(file, n, 2, p),
@@ -614,7 +614,7 @@ fn ties_held(file: &[u8], n: u32) -> bool
 fn held_refusal(file: &[u8], numbers: Numbers) -> u32
     ensures { λ r. ⌜ r ≡ heldRefusal (weekOf numbers (now (file .entry))) (now (file .entry)) ⌝ }
 {
-    if !week::numbers_ok(numbers) {
+    if !tables::numbers_ok(numbers) {
         return 1;
     }
     let n = numbers.n;

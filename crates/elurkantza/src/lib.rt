@@ -173,7 +173,7 @@ fn hand_copy(
     let taken = sheet.copy(numbers, domain, loss, give, ties);
     if order24.len() != 24 {
         *copy = 0;
-        return week::join(true, false, taken.answer);
+        return tables::join(true, false, taken.answer);
     }
     let slots = taken.order;
     repair::copy_slots(&slots, order24);

@@ -553,7 +553,7 @@ fn repair_admits(
 {
     let one = lost_ok(numbers.n, 1, 2, lost);
     let two = repair_lengths(numbers.n, order, out);
-    week::join(one, two, week::judge(numbers, domain, loss, give, ties))
+    tables::join(one, two, tables::judge(numbers, domain, loss, give, ties))
 }
 
 // The first repair of `order` for the lots in `lost`, into `out`. Answers 0, or the refusal: 1, 2, 3, 4, 6 or 8; refused, `out`

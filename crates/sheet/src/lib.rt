@@ -90,8 +90,8 @@ pub fn open(
     ensures { λ r. ⌜ r ≡ opened (week numbers (now (domain .entry)) (now (loss .entry)) (now (give .entry)) (now (ties .entry))) (now (order .entry)) ⌝ }
 {
     let n = numbers.n;
-    let judged = week::judge(numbers, domain, loss, give, ties);
-    let answer = week::join(true, order.len() == n as usize, judged);
+    let judged = tables::judge(numbers, domain, loss, give, ties);
+    let answer = tables::join(true, order.len() == n as usize, judged);
     if answer != 0 {
         return Opened {
             answer,
@@ -178,7 +178,7 @@ impl Sheet {
         ensures { λ r. ⌜ r ≡ copied (week numbers (now (domain .entry)) (now (loss .entry)) (now (give .entry)) (now (ties .entry))) self ⌝ }
     {
         let n = numbers.n;
-        let judged = week::judge(numbers, domain, loss, give, ties);
+        let judged = tables::judge(numbers, domain, loss, give, ties);
         if judged != 0 {
             return Copied {
                 answer: judged,
@@ -417,7 +417,7 @@ fn answer_of(
     ensures { λ r. ⌜ r ≡ saveAnswer (week numbers (now (domain .entry)) (now (loss .entry)) (now (give .entry)) (now (ties .entry))) sheet copy (now (moves .entry)) ⌝ }
 {
     let n = numbers.n;
-    let judged = week::judge(numbers, domain, loss, give, ties);
+    let judged = tables::judge(numbers, domain, loss, give, ties);
     if judged != 0 {
         return judged;
     }

@@ -92,11 +92,11 @@ fn table_admits(
 ) -> u32
     ensures { λ r. ⌜ r ≡ admits true (rowLengths (numbers .n) (numbers .a) (now (order .entry)) (now (table .entry))) (week numbers (now (domain .entry)) (now (loss .entry)) (now (give .entry)) (now (ties .entry))) ⌝ }
 {
-    let judged = week::judge(numbers, domain, loss, give, ties);
+    let judged = tables::judge(numbers, domain, loss, give, ties);
     if judged == 1 {
         return 1;
     }
-    week::join(
+    tables::join(
         true,
         repair::row_lengths(numbers.n, numbers.a, order, table),
         judged,

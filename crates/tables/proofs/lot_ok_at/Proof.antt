@@ -1,9 +1,9 @@
--- `week::lot_ok_at` meets its contract.
+-- `tables::lot_ok_at` meets its contract.
 -- Assumes nothing.
 use borrow.Author.Needs.{needs}
 use Rattle.week.specs.Tables.{lotOkAt}
-use Rattle.week.proofs.lot_ok_at.Statement.{statement}
-use Rattle.week.proofs.lot_ok_at.Tie as tie
+use Rattle.tables.proofs.lot_ok_at.Statement.{statement}
+use Rattle.tables.proofs.lot_ok_at.Tie as tie
 
 word-of-requires : tie.Need-word-of-requires
 word-of-requires c κs = search needs

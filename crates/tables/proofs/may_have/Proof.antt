@@ -1,13 +1,13 @@
--- `week::may_have` meets its contract.
+-- `tables::may_have` meets its contract.
 -- Assumes nothing.
 use mathlib.Core.Path.{sym, _∙_, ap}
 use Prim.Native.Nat.{ℕ}
 use borrow.Author.Tests.{eq-eqb, ne-eqb, not-true, not-false}
 use borrow.Author.Needs.{needs}
 use Rattle.week.specs.Rules.{bitOf}
 use Rattle.week.specs.Tables.{mayHave}
-use Rattle.week.proofs.may_have.Statement.{statement}
-use Rattle.week.proofs.may_have.Tie as tie
+use Rattle.tables.proofs.may_have.Statement.{statement}
+use Rattle.tables.proofs.may_have.Tie as tie
 
 returns : tie.Need-returns
 unfolding mayHave

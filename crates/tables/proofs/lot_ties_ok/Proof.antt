@@ -1,4 +1,4 @@
--- `week::lot_ties_ok` meets its contract: the pairs passed are right.
+-- `tables::lot_ties_ok` meets its contract: the pairs passed are right.
 -- Assumes nothing.
 use mathlib.Core.Bool.{true}
 use mathlib.Core.Path.{_≡_, sym, _∙_}
@@ -8,10 +8,10 @@ use borrow.Author.Tests.{not-true, not-false}
 use borrow.Author.Needs.{needs}
 use Rattle.lex.specs.Every.{every}
 use Rattle.lex.proofs.Every.{every-none, every-step, every-false, every-end}
 use Rattle.week.specs.Rules.{rules}
 use Rattle.week.specs.Tables.{pairOk, lotTiesHalf}
-use Rattle.week.proofs.lot_ties_ok.Statement.{statement}
-use Rattle.week.proofs.lot_ties_ok.Tie as tie
+use Rattle.tables.proofs.lot_ties_ok.Statement.{statement}
+use Rattle.tables.proofs.lot_ties_ok.Tie as tie
 
 abbrev Inv-loop : tie.InvT-loop
 Inv-loop n domain ties p last q₀ q = (q ≤ p .0 + 1) × (every (pairOk (rules n domain ties) (p .0)) q ≡ true)

@@ -1,4 +1,4 @@
--- `week::word_ok` meets its contract: the word has no bit outside the domains, and the bits passed agree with their mirrors.
+-- `tables::word_ok` meets its contract: the word has no bit outside the domains, and the bits passed agree with their mirrors.
 -- Assumes nothing.
 use mathlib.Core.Bool.{true, Bool·beq}
 use mathlib.Core.Path.{_≡_, sym, _∙_, ap, ap₂}
@@ -8,11 +8,11 @@ use borrow.Author.Tests.{not-true, not-false}
 use borrow.Author.Needs.{needs}
 use Rattle.lex.specs.Every.{every}
 use Rattle.lex.proofs.Every.{every-none, every-step, every-end, not-both}
 use Rattle.week.specs.Rules.{Rules, rules, bitOf, inside, together, tieWord}
 use Rattle.week.specs.Tables.{bitOk, wordOk, mayHave}
 use Rattle.week.proofs.Tables.{beq-same, same-beq, word-out, word-unlike, bit-right}
-use Rattle.week.proofs.word_ok.Statement.{statement}
-use Rattle.week.proofs.word_ok.Tie as tie
+use Rattle.tables.proofs.word_ok.Statement.{statement}
+use Rattle.tables.proofs.word_ok.Tie as tie
 
 abbrev Inv-loop : tie.InvT-loop
 Inv-loop n domain ties p q v word w₀ w = (w ≤ 16) × (every (bitOk (rules n domain ties) (p .0) (q .0) (v .0)) w ≡ true)

@@ -1,8 +1,8 @@
--- `week::gap_ok` meets its contract.
+-- `tables::gap_ok` meets its contract.
 -- Assumes nothing.
 use borrow.Author.Tests.{ne-eqb, eq-eqb}
-use Rattle.week.proofs.gap_ok.Statement.{statement}
-use Rattle.week.proofs.gap_ok.Tie as tie
+use Rattle.tables.proofs.gap_ok.Statement.{statement}
+use Rattle.tables.proofs.gap_ok.Tie as tie
 
 returns : tie.Need-returns
 returns c = rw (ne-eqb _ _ (c .if1 .taken))

@@ -1,4 +1,4 @@
--- `week::pair_ok` meets its contract: the words passed are right.
+-- `tables::pair_ok` meets its contract: the words passed are right.
 -- Assumes nothing.
 use mathlib.Core.Bool.{true}
 use mathlib.Core.Path.{_≡_, sym, _∙_}
@@ -8,10 +8,10 @@ use borrow.Author.Tests.{not-true, not-false}
 use borrow.Author.Needs.{needs}
 use Rattle.lex.specs.Every.{every}
 use Rattle.lex.proofs.Every.{every-none, every-step, every-false, every-end}
 use Rattle.week.specs.Rules.{rules}
 use Rattle.week.specs.Tables.{wordOk, pairOk}
-use Rattle.week.proofs.pair_ok.Statement.{statement}
-use Rattle.week.proofs.pair_ok.Tie as tie
+use Rattle.tables.proofs.pair_ok.Statement.{statement}
+use Rattle.tables.proofs.pair_ok.Tie as tie
 
 abbrev Inv-loop : tie.InvT-loop
 Inv-loop n domain ties p q v₀ v = (v ≤ 16) × (every (wordOk (rules n domain ties) (p .0) (q .0)) v ≡ true)

@@ -1,9 +1,9 @@
--- `week::join` meets its contract.
+-- `tables::join` meets its contract.
 -- Assumes nothing.
 use borrow.Author.Tests.{not-true, not-false, eq-eqb, ne-eqb}
 use Rattle.week.specs.Tables.{joined}
-use Rattle.week.proofs.join.Statement.{statement}
-use Rattle.week.proofs.join.Tie as tie
+use Rattle.tables.proofs.join.Statement.{statement}
+use Rattle.tables.proofs.join.Tie as tie
 
 returns : tie.Need-returns
 unfolding joined

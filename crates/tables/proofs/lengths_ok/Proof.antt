@@ -1,10 +1,10 @@
--- `week::lengths_ok` meets its contract: the square of n is small.
+-- `tables::lengths_ok` meets its contract: the square of n is small.
 -- Assumes nothing.
 use native.Mathlib.Omega.{arith}
 use Rattle.week.proofs.Words.{square-small}
 use Rattle.week.proofs.Tables.{lengths-good, lengths-bad}
-use Rattle.week.proofs.lengths_ok.Statement.{statement}
-use Rattle.week.proofs.lengths_ok.Tie as tie
+use Rattle.tables.proofs.lengths_ok.Statement.{statement}
+use Rattle.tables.proofs.lengths_ok.Tie as tie
 
 returns : tie.Need-returns
 returns c = lengths-bad _ _ _ _ _ (λ l. omega arith)

@@ -1,12 +1,12 @@
--- `week::lot_ok` meets its contract.
+-- `tables::lot_ok` meets its contract.
 -- Assumes nothing.
 use mathlib.Core.Path.{sym, _∙_}
 use mathlib.Core.Bool.{and-false}
 use borrow.Author.Tests.{eq-eqb, ne-eqb, not-true, not-false}
 use borrow.Author.Needs.{needs}
 use Rattle.week.specs.Tables.{lotOk}
-use Rattle.week.proofs.lot_ok.Statement.{statement}
-use Rattle.week.proofs.lot_ok.Tie as tie
+use Rattle.tables.proofs.lot_ok.Statement.{statement}
+use Rattle.tables.proofs.lot_ok.Tie as tie
 
 returns : tie.Need-returns
 unfolding lotOk

@@ -1,13 +1,13 @@
--- `week::numbers_ok` meets its contract: every number that passed is within its limits.
+-- `tables::numbers_ok` meets its contract: every number that passed is within its limits.
 -- Assumes nothing.
 use mathlib.Core.Path.{sym, _∙_}
 use native.Mathlib.Omega.{arith}
 use borrow.Author.Tests.{not-true, not-false}
 use borrow.Author.Needs.{needs}
 use Rattle.lex.proofs.Every.{not-both}
 use Rattle.week.proofs.Tables.{numbers-good, numbers-bad}
-use Rattle.week.proofs.numbers_ok.Statement.{statement}
-use Rattle.week.proofs.numbers_ok.Tie as tie
+use Rattle.tables.proofs.numbers_ok.Statement.{statement}
+use Rattle.tables.proofs.numbers_ok.Tie as tie
 
 returns : tie.Need-returns
 returns c = numbers-bad _ (λ l. omega arith)

@@ -1,4 +1,4 @@
--- `week::words_ok` meets its contract: the words passed are right.
+-- `tables::words_ok` meets its contract: the words passed are right.
 -- Assumes nothing.
 use mathlib.Core.Bool.{true}
 use mathlib.Core.Path.{_≡_, sym, _∙_}
@@ -8,9 +8,9 @@ use borrow.Author.Tests.{not-true, not-false}
 use borrow.Author.Needs.{needs}
 use Rattle.lex.specs.Every.{every}
 use Rattle.lex.proofs.Every.{every-none, every-step, every-false, every-end}
 use Rattle.week.specs.Tables.{lotOkAt, wordsOk}
-use Rattle.week.proofs.words_ok.Statement.{statement}
-use Rattle.week.proofs.words_ok.Tie as tie
+use Rattle.tables.proofs.words_ok.Statement.{statement}
+use Rattle.tables.proofs.words_ok.Tie as tie
 
 abbrev Inv-loop : tie.InvT-loop
 Inv-loop n domain loss give p₀ p = (p ≤ n) × (every (lotOkAt domain loss give) p ≡ true)

@@ -1,4 +1,4 @@
--- `week::ties_ok` meets its contract: the lots passed are right beside those before them.
+-- `tables::ties_ok` meets its contract: the lots passed are right beside those before them.
 -- Assumes nothing.
 use mathlib.Core.Bool.{true}
 use mathlib.Core.Path.{_≡_, sym, _∙_}
@@ -8,11 +8,11 @@ use borrow.Author.Tests.{not-true, not-false}
 use borrow.Author.Needs.{needs}
 use Rattle.lex.specs.Every.{every}
 use Rattle.lex.proofs.Every.{every-none, every-step, every-false, every-end}
 use Rattle.week.specs.Rules.{rules}
 use Rattle.week.specs.Tables.{lotTiesHalf, tiesOk}
 use Rattle.week.proofs.Tables.{ties-half}
-use Rattle.week.proofs.ties_ok.Statement.{statement}
-use Rattle.week.proofs.ties_ok.Tie as tie
+use Rattle.tables.proofs.ties_ok.Statement.{statement}
+use Rattle.tables.proofs.ties_ok.Tie as tie
 
 abbrev Inv-loop : tie.InvT-loop
 Inv-loop n domain ties p₀ p = (p ≤ n) × (every (lotTiesHalf (rules n domain ties)) p ≡ true)

@@ -1,14 +1,14 @@
--- `week::judge` meets its contract: each check in its turn.
+-- `tables::judge` meets its contract: each check in its turn.
 -- Assumes nothing.
 use mathlib.Core.Path.{sym, _∙_}
 use Prim.Native.Nat.{_≤_}
 use native.Mathlib.Omega.{arith}
 use borrow.Author.Tests.{not-true, not-false}
 use borrow.Author.Needs.{needs}
 use Rattle.week.specs.Tables.{admits}
 use Rattle.week.proofs.Tables.{stops, stops-last, goes-on, goes-off, limits}
-use Rattle.week.proofs.judge.Statement.{statement}
-use Rattle.week.proofs.judge.Tie as tie
+use Rattle.tables.proofs.judge.Statement.{statement}
+use Rattle.tables.proofs.judge.Tie as tie
 
 -- what the first check says of n
 few : (b : tie.Else1) → b .before .before .before .before .before .before .args .numbers .n ≤ 24
