@@ -9,7 +9,7 @@ use Rattle.repair.proofs.must_move.Statement.{statement}
 use Rattle.repair.proofs.must_move.Tie as tie
 
 returns : tie.Need-returns
-returns c = sym (must-later _ _ _ _ _ _ (c .if1 .taken))
+returns c = sym (must-later _ _ _ _ _ _ (omega arith))
 
 is-lost-requires : tie.Need-is-lost-requires
 is-lost-requires c κs = search needs
