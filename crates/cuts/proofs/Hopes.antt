@@ -20,8 +20,7 @@ use Rattle.week.specs.Rules.{Rules, inDomain, together, keeps, beside}
 use Rattle.week.specs.Tables.{Week, lots, pairRules}
 use Rattle.week.proofs.Rules.{keeps-below, keeps-closed}
 use Rattle.robust.specs.Super.{robust, firstSuper}
-use Rattle.parts.specs.Part.{placed, Extends, Full, Empty, Tested, Decides}
-use Rattle.parts.specs.Reason.{Agrees}
+use Rattle.parts.specs.Part.{placed, Extends, Agrees, Full, Empty, Tested, Decides}
 use Rattle.parts.proofs.Outer.{Fixed, fixed-found, fixed-none}
 use Rattle.cuts.specs.Cut.{whole, keepsOn, robustOn}
 use Rattle.cuts.specs.Hopes.{suits, suitsOn, isLeft, any, lives, alive, hopes, Supers}
@@ -107,22 +106,20 @@ module _ (R : Rules) (s : List ℕ) where
   unfolding lives
   lives-free p h = rw (le-ltb (getD s p 0) 16 h)
 
-  -- an order that keeps the rules and extends s
-  module _ (t : List ℕ) (n : length t ≡ R .lots) (e : keeps R t ≡ true) (x : Extends (R .lots) 16 s t) where
-    -- has each lot in a slot that is left to it
-    pub left-order : (p : ℕ) → p < R .lots → isLeft R s p (getD t p 0) ≡ true
-    unfolding isLeft
-    left-order p l = both (k .domain p l refl) (suits-order R whole s t p (λ q m o d. k .pairs p q l m refl refl d) (λ q m o h. x q m h))
-      where
-        k : KeepsOn R whole (R .lots) t
-        k = rw n at (keepsOn-read R whole t (keeps-whole R t ∙ e))
+  -- an order that keeps the rules and extends s has each lot in a slot that is left to it
+  pub left-order : (t : List ℕ) → length t ≡ R .lots → keeps R t ≡ true → Extends (R .lots) 16 s t → (p : ℕ) → p < R .lots → isLeft R s p (getD t p 0) ≡ true
+  unfolding isLeft
+  left-order t n e x p l = both (k .domain p l refl) (suits-order R whole s t p (λ q m o d. k .pairs p q l m refl refl d) (λ q m o h. x q m h))
+    where
+      k : KeepsOn R whole (R .lots) t
+      k = rw n at (keepsOn-read R whole t (keeps-whole R t ∙ e))
 
-    alive-needed : alive R s ≡ true
-    unfolding alive
-    alive-needed = every-true (lives R s) (R .lots) (λ p l. elim (decLt (getD s p 0) 16) [
-      | yes h ↦ lives-here p h ∙ ap (isLeft R s p) (sym (x p l h)) ∙ left-order p l
-      | no h ↦ lives-free p (omega arith) ∙ any-hit (isLeft R s p) 16 (getD t p 0) (keeps-below R t e p (omega arith)) (left-order p l)
-    ])
+  alive-needed : (t : List ℕ) → length t ≡ R .lots → keeps R t ≡ true → Extends (R .lots) 16 s t → alive R s ≡ true
+  unfolding alive
+  alive-needed t n e x = every-true (lives R s) (R .lots) (λ p l. elim (decLt (getD s p 0) 16) [
+    | yes h ↦ lives-here p h ∙ ap (isLeft R s p) (sym (x p l h)) ∙ left-order t n e x p l
+    | no h ↦ lives-free p (omega arith) ∙ any-hit (isLeft R s p) 16 (getD t p 0) (keeps-below R t e p (omega arith)) (left-order t n e x p l)
+  ])
 
   -- the lots that s places keep the rules
   pub alive-keeps : alive R s ≡ true → KeepsOn R (placed 16 s) (R .lots) s

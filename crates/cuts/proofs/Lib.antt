@@ -4,3 +4,4 @@ pub mod Words
 pub mod Moves
 pub mod Settled
 pub mod Reasons
+pub mod Free

@@ -23,10 +23,6 @@ pub record Made (n : ℕ) (f : ℕ → ℕ) (words : List ℕ) : Type 0 where
   pub each : (p : ℕ) → p < n → getD words p 0 ≡ f p
   pub narrow : (p : ℕ) → p < n → getD words p 0 < 2 ^ 16
 
--- lot q is not placed, and no slot is left to it
-unfoldable pub starves : List ℕ → List ℕ → ℕ → Bool
-starves s words q = unplaced 16 s q && eqb (getD words q 0) 0
-
 -- The tests of a repair, of lot p
 
 module _ (C : Case) (m words : List ℕ) (p : ℕ) where

@@ -10,7 +10,7 @@ use week::Slot;
 ghost use mathlib.Core.Path.{_≡_};
 ghost use mathlib.Core.Bool.{true};
 ghost use Prim.Native.Nat.{_+_, _≤_, _<_};
-ghost use lib.ListN.{length, getD, set};
+ghost use lib.ListN.{length, getD};
 ghost use Rattle.lex.specs.Scan.{scanFrom};
 ghost use Rattle.week.specs.Rules.{rules};
 ghost use Rattle.week.specs.Tables.{week, refusal};
@@ -18,10 +18,11 @@ ghost use Rattle.repair.specs.Repair.{case};
 ghost use Rattle.repair.specs.Found.{lotsOf, Holds};
 ghost use Rattle.robust.specs.Super.{firstSuper};
 ghost use Rattle.parts.specs.Part.{placed, Least};
-ghost use Rattle.cuts.specs.Cut.{safeOn, robustOn};
-ghost use Rattle.cuts.specs.Hopes.{alive, hopes, Supers};
-ghost use Rattle.finish.specs.Tests.{metWord, Made, starves, calmBy, soundBy, usesBy, hasToBy, mayBy};
-ghost use Rattle.finish.specs.Search.{Best, Moving, Tells, Next, Finished, Known};
+ghost use Rattle.cuts.specs.Cut.{robustOn};
+ghost use Rattle.cuts.specs.Hopes.{Supers};
+ghost use Rattle.cuts.specs.Reasons.{None, Why, Struck, Judges};
+ghost use Rattle.finish.specs.Tests.{metWord, Made, calmBy, soundBy, usesBy, hasToBy, mayBy};
+ghost use Rattle.finish.specs.Search.{Best, Part, Merged, Bound, Blamed, Moving, Tells, Frees, Freed, Paired, risks, SafeSingles, SafePartners, SafePairs, Verdict, Going, Judging, Next, Held, Picks, Finished, Known};
 
 // Whether a lot is placed.
 fn is_placed(order: &[u8], p: Lot) -> bool
@@ -70,24 +71,45 @@ fn first_words(n: u32, domain: &[u16]) -> [u16; 24]
     words
 }
 
-// Whether a lot is not placed and no slot is left to it.
-fn is_starved(order: &[u8], words: &[u16], q: Lot) -> bool
-    ensures { λ r. ⌜ r ≡ starves (now (order .entry)) (now (words .entry)) (q .0) ⌝ }
-{
-    if is_placed(order, q) {
-        return false;
+// One more for a lot that stood in the way; no lot gets heavier than 65535.
+fn heavier(weights: &mut [u16], q: Lot) {
+    let at = q.0 as usize;
+    if weights.len() <= at {
+        return;
     }
-    week::word_of(words, q) == 0
+    let now = weights[at];
+    if now == 65535 {
+        return;
+    }
+    weights[at] = now + 1;
 }
 
-// A lot, or n for none, and how many slots are left to it.
+// The same for each lot of a loss.
+fn heavier_lost(weights: &mut [u16], lost: Lost) {
+    let first = lost.0;
+    let last = lost.1;
+    heavier(weights, first);
+    if first.0 != last.0 {
+        heavier(weights, last);
+    }
+}
+
+// A lot, or n for none, how many slots are left to it, and its weight.
 struct Choice {
     lot: u8,
     left: u32,
+    weight: u16,
 }
 
-// The better of a choice among the lots before q and of q itself: q, if it is not placed and has fewer slots left.
-fn better(n: u32, order: &[u8], words: &[u16], best: Choice, q: Lot) -> Choice
+// The better of a choice among the lots before q and of q itself: q, if it is not placed and has fewer slots left per weight.
+fn better(
+    n: u32,
+    order: &[u8],
+    words: &[u16],
+    weights: &[u16],
+    best: Choice,
+    q: Lot,
+) -> Choice
     requires { ⌜ (q .0 < n) × Best n (now order) (q .0) (best .lot) ⌝ }
     ensures { λ r. ⌜ Best n (now (order .entry)) (q .0 + 1) (r .lot) ⌝ }
 {
@@ -95,30 +117,98 @@ fn better(n: u32, order: &[u8], words: &[u16], best: Choice, q: Lot) -> Choice
         return best;
     }
     let left = u32::count_ones(week::word_of(words, q) as u32);
+    let weight = week::word_of(weights, q);
     if n <= best.lot as u32 {
-        return Choice { lot: q.0, left };
+        return Choice {
+            lot: q.0,
+            left,
+            weight,
+        };
     }
-    if best.left <= left {
+    if best.left as u64 * weight as u64 <= left as u64 * best.weight as u64 {
         return best;
     }
-    Choice { lot: q.0, left }
+    Choice {
+        lot: q.0,
+        left,
+        weight,
+    }
 }
 
-// A lot that is not placed, one with the fewest slots left; n where all are. Any choice is right: this one makes the search short.
-fn choose(n: u32, order: &[u8], words: &[u16]) -> Lot
+// A lot that is not placed, one with the fewest slots left per weight; n where all are. Any choice is right: this one makes the search short.
+fn choose(n: u32, order: &[u8], words: &[u16], weights: &[u16]) -> Lot
     requires { ⌜ n ≤ 24 ⌝ }
     ensures { λ r. ⌜ Best n (now (order .entry)) n (r .0) ⌝ }
 {
     let mut best = Choice {
         lot: n as u8,
         left: 0,
+        weight: 0,
     };
     let mut q: u8 = 0;
     while (q as u32) < n {
-        best = better(n, order, words, best, Lot(q));
+        best = better(n, order, words, weights, best, Lot(q));
         q += 1;
     }
     Lot(best.lot)
+}
+
+// The lots that a part a of an order places, and those but x of a part b.
+fn merged(a: [u8; 24], b: [u8; 24], x: Lot) -> [u8; 24]
+    requires { ⌜ (length a ≡ 24) × (length b ≡ 24) ⌝ }
+    ensures { λ r. ⌜ Merged a b (x .0) 24 r ⌝ }
+{
+    let mut both = a;
+    let mut p: u8 = 0;
+    while p < 24 {
+        let at = p as usize;
+        if 16 <= both[at] {
+            if p != x.0 {
+                both[at] = b[at];
+            }
+        }
+        p += 1;
+    }
+    both
+}
+
+// A part of an order beside which lot q has no slots but those of `target`, where it has none beside the whole: in turn each lot that takes another from q.
+fn blamed(
+    n: u32,
+    domain: &[u16],
+    ties: &[u16],
+    order: &[u8],
+    q: Lot,
+    target: u16,
+) -> [u8; 24]
+    requires { ⌜ Bound (rules n (now domain) (now ties)) (now order) (q .0) target ⌝ }
+    ensures { λ r. ⌜ Blamed (rules n (now (domain .entry)) (now (ties .entry))) (now (order .entry)) (q .0) target r ⌝ }
+{
+    let mut part = [16u8; 24];
+    let own = week::word_of(domain, q);
+    let mut rest = own ^ (own & target);
+    let mut p: u8 = 0;
+    while (p as u32) < n {
+        if rest == 0 {
+            return part;
+        }
+        let v = week::slot_in(order, Lot(p));
+        let at = p as usize;
+        p += 1;
+        if 16 <= v.0 {
+            continue;
+        }
+        if at as u8 == q.0 {
+            continue;
+        }
+        let tie = week::tie_word(n, ties, Lot(at as u8), v, q);
+        if week::within(rest, tie) {
+            continue;
+        }
+        part[at] = v.0;
+        rest = rest & tie;
+    }
+    part
 }
 
 // Whether a lot may stay where it stands, beside the moves that are decided.
@@ -306,8 +396,14 @@ fn mends(
     false
 }
 
-// Whether a loss is no break of the placed lots, or they have a repair for it.
-fn is_safe(
+// Whether the placed lots have a repair for a break among them, and the lots that the search for one met.
+struct Mended {
+    is: bool,
+    met: u32,
+}
+
+// Whether the placed lots have a repair for a break among them. Where not, no super solution places them so.
+fn has_repair(
     numbers: Numbers,
     domain: &[u16],
     loss: &[u16],
@@ -315,17 +411,214 @@ fn is_safe(
     ties: &[u16],
     order: &[u8],
     lost: Lost,
-) -> bool
-    requires { ⌜ (refusal (week numbers (now domain) (now loss) (now give) (now ties)) ≡ 0) × (alive (rules (numbers .n) (now domain) (now ties)) (now order) ≡ true) ⌝ }
-    ensures { λ r. ⌜ r ≡ safeOn (week numbers (now (domain .entry)) (now (loss .entry)) (now (give .entry)) (now (ties .entry))) (placed 16 (now (order .entry))) (now (order .entry)) (lotsOf lost) ⌝ }
+) -> Mended
+    requires { ⌜ Struck (week numbers (now domain) (now loss) (now give) (now ties)) (now order) (lotsOf lost) ⌝ }
+    ensures { λ r. ⌜ Judges (week numbers (now (domain .entry)) (now (loss .entry)) (now (give .entry)) (now (ties .entry))) (now (order .entry)) (lotsOf lost) (r .is) ⌝ }
 {
-    if !robust::is_break(loss, order, lost) {
-        return true;
-    }
-    mends(numbers, domain, give, ties, order, lost, [16; 24], domain)
+    let is = mends(
+        numbers,
+        domain,
+        give,
+        ties,
+        order,
+        lost,
+        [16; 24],
+        domain,
+    );
+    Mended { is, met: 16777215 }
 }
 
-// Whether each break of the placed lots has a repair among them.
+// The slots to which a lost lot may go from slot w.
+fn free_word(numbers: Numbers, w: Slot) -> u16
+    ensures { λ r. ⌜ Frees numbers (w .0) r ⌝ }
+{
+    let at = w.0;
+    if 16 <= at {
+        return 0;
+    }
+    if numbers.alternative == 1 {
+        if 15 <= at as u64 + numbers.gap as u64 {
+            return 0;
+        }
+        return 65535u16 << (at as u32 + numbers.gap + 1);
+    }
+    if numbers.helper == 1 {
+        return 65534u16 << at;
+    }
+    65535u16 ^ (1u16 << at)
+}
+
+// Of each lot, the slots that are left to it beside the placed lots and to which it may go if it is lost.
+fn free_words(numbers: Numbers, order: &[u8], words: &[u16]) -> [u16; 24]
+    requires { ⌜ numbers .n ≤ 24 ⌝ }
+    ensures { λ r. ⌜ Freed numbers (now (order .entry)) (now (words .entry)) (numbers .n) r ⌝ }
+{
+    let mut free = [0u16; 24];
+    let mut p: u8 = 0;
+    while (p as u32) < numbers.n {
+        free[p as usize] = week::word_of(words, Lot(p))
+            & free_word(numbers, week::slot_in(order, Lot(p)));
+        p += 1;
+    }
+    free
+}
+
+// Whether lot x has a slot of one word, and lot y one of another, that may stand together.
+fn has_pair(n: u32, ties: &[u16], x: Lot, first: u16, y: Lot, last: u16) -> bool
+    ensures { λ r. ⌜ r ≡ true → Paired n (now (ties .entry)) (x .0) first (y .0) last ⌝ }
+{
+    let mut v: u8 = 0;
+    while v < 16 {
+        if week::bit(first, Slot(v)) {
+            if week::tie_word(n, ties, x, Slot(v), y) & last != 0 {
+                return true;
+            }
+        }
+        v += 1;
+    }
+    false
+}
+
+// Whether a lot stands in a slot of its loss word.
+fn at_risk(loss: &[u16], order: &[u8], p: Lot) -> bool
+    ensures { λ r. ⌜ r ≡ risks (now (loss .entry)) (now (order .entry)) (p .0) ⌝ }
+{
+    week::bit(week::word_of(loss, p), week::slot_in(order, p))
+}
+
+// A loss of placed lots judged: none is without a repair; or `lost` is, and the search for one met the lots of the bits of `met`.
+struct Judged {
+    is: bool,
+    lost: Lost,
+    met: u32,
+}
+
+// Whether each loss of one placed lot has a repair: a free slot is one at once.
+fn singles_safe(
+    numbers: Numbers,
+    domain: &[u16],
+    loss: &[u16],
+    give: &[u16],
+    ties: &[u16],
+    order: &[u8],
+    words: &[u16],
+    free: &[u16],
+) -> Judged
+    requires { ⌜ Judging (week numbers (now domain) (now loss) (now give) (now ties)) (now order) (now words) (now free) × (1 ≤ numbers .a) ⌝ }
+    ensures { λ r. ⌜ Verdict (week numbers (now (domain .entry)) (now (loss .entry)) (now (give .entry)) (now (ties .entry))) (now (order .entry)) (SafeSingles (week numbers (now (domain .entry)) (now (loss .entry)) (now (give .entry)) (now (ties .entry))) (now (order .entry)) (numbers .n)) (r .is) (lotsOf (r .lost)) ⌝ }
+{
+    let mut x: u8 = 0;
+    while (x as u32) < numbers.n {
+        let p = Lot(x);
+        x += 1;
+        if !at_risk(loss, order, p) {
+            continue;
+        }
+        if week::word_of(free, p) != 0 {
+            continue;
+        }
+        let mended = has_repair(numbers, domain, loss, give, ties, order, Lost(p, p));
+        if !mended.is {
+            return Judged {
+                is: false,
+                lost: Lost(p, p),
+                met: mended.met,
+            };
+        }
+    }
+    Judged {
+        is: true,
+        lost: Lost(Lot(0), Lot(0)),
+        met: 0,
+    }
+}
+
+// Whether each loss of lot x, which is at risk, with a placed lot behind it has a repair: two free slots that may stand together are one at once.
+fn partners_safe(
+    numbers: Numbers,
+    domain: &[u16],
+    loss: &[u16],
+    give: &[u16],
+    ties: &[u16],
+    order: &[u8],
+    words: &[u16],
+    free: &[u16],
+    x: Lot,
+) -> Judged
+    requires { ⌜ Judging (week numbers (now domain) (now loss) (now give) (now ties)) (now order) (now words) (now free) × (2 ≤ numbers .a) × (risks (now loss) (now order) (x .0) ≡ true) × (x .0 < numbers .n) ⌝ }
+    ensures { λ r. ⌜ Verdict (week numbers (now (domain .entry)) (now (loss .entry)) (now (give .entry)) (now (ties .entry))) (now (order .entry)) (SafePartners (week numbers (now (domain .entry)) (now (loss .entry)) (now (give .entry)) (now (ties .entry))) (now (order .entry)) (x .0) (numbers .n)) (r .is) (lotsOf (r .lost)) ⌝ }
+{
+    let own = week::word_of(free, x);
+    let mut y = x.0 + 1;
+    while (y as u32) < numbers.n {
+        let q = Lot(y);
+        y += 1;
+        if !at_risk(loss, order, q) {
+            continue;
+        }
+        if has_pair(numbers.n, ties, x, own, q, week::word_of(free, q)) {
+            continue;
+        }
+        let mended = has_repair(numbers, domain, loss, give, ties, order, Lost(x, q));
+        if !mended.is {
+            return Judged {
+                is: false,
+                lost: Lost(x, q),
+                met: mended.met,
+            };
+        }
+    }
+    Judged {
+        is: true,
+        lost: Lost(Lot(0), Lot(0)),
+        met: 0,
+    }
+}
+
+// Whether each loss of two placed lots has a repair.
+fn pairs_safe(
+    numbers: Numbers,
+    domain: &[u16],
+    loss: &[u16],
+    give: &[u16],
+    ties: &[u16],
+    order: &[u8],
+    words: &[u16],
+    free: &[u16],
+) -> Judged
+    requires { ⌜ Judging (week numbers (now domain) (now loss) (now give) (now ties)) (now order) (now words) (now free) × (2 ≤ numbers .a) ⌝ }
+    ensures { λ r. ⌜ Verdict (week numbers (now (domain .entry)) (now (loss .entry)) (now (give .entry)) (now (ties .entry))) (now (order .entry)) (SafePairs (week numbers (now (domain .entry)) (now (loss .entry)) (now (give .entry)) (now (ties .entry))) (now (order .entry)) (numbers .n)) (r .is) (lotsOf (r .lost)) ⌝ }
+{
+    let mut x: u8 = 0;
+    while (x as u32) < numbers.n {
+        let p = Lot(x);
+        x += 1;
+        if !at_risk(loss, order, p) {
+            continue;
+        }
+        let judged = partners_safe(
+            numbers,
+            domain,
+            loss,
+            give,
+            ties,
+            order,
+            words,
+            free,
+            p,
+        );
+        if !judged.is {
+            return judged;
+        }
+    }
+    Judged {
+        is: true,
+        lost: Lost(Lot(0), Lot(0)),
+        met: 0,
+    }
+}
+
+// Whether each break of the placed lots has a repair among them; where one has none, no super solution places them so.
 fn all_safe(
     numbers: Numbers,
     domain: &[u16],
@@ -333,30 +626,101 @@ fn all_safe(
     give: &[u16],
     ties: &[u16],
     order: &[u8],
-) -> bool
-    requires { ⌜ (refusal (week numbers (now domain) (now loss) (now give) (now ties)) ≡ 0) × (alive (rules (numbers .n) (now domain) (now ties)) (now order) ≡ true) ⌝ }
-    ensures { λ r. ⌜ r ≡ robustOn (week numbers (now (domain .entry)) (now (loss .entry)) (now (give .entry)) (now (ties .entry))) (placed 16 (now (order .entry))) (now (order .entry)) ⌝ }
+    words: &[u16],
+) -> Judged
+    requires { ⌜ Going (week numbers (now domain) (now loss) (now give) (now ties)) (now order) (now words) ⌝ }
+    ensures { λ r. ⌜ Verdict (week numbers (now (domain .entry)) (now (loss .entry)) (now (give .entry)) (now (ties .entry))) (now (order .entry)) (robustOn (week numbers (now (domain .entry)) (now (loss .entry)) (now (give .entry)) (now (ties .entry))) (placed 16 (now (order .entry))) (now (order .entry)) ≡ true) (r .is) (lotsOf (r .lost)) ⌝ }
 {
-    let sets = repair::row_count(numbers.n, numbers.a);
-    let mut i: usize = 0;
-    while i < sets {
-        if !is_safe(
-            numbers,
-            domain,
-            loss,
-            give,
-            ties,
-            order,
-            robust::lost_at(numbers.n, i),
-        ) {
-            return false;
-        }
-        i += 1;
+    if numbers.a < 1 {
+        return Judged {
+            is: true,
+            lost: Lost(Lot(0), Lot(0)),
+            met: 0,
+        };
     }
-    true
+    let free = free_words(numbers, order, words);
+    let one = singles_safe(
+        numbers,
+        domain,
+        loss,
+        give,
+        ties,
+        order,
+        words,
+        &free,
+    );
+    if !one.is {
+        return one;
+    }
+    if numbers.a < 2 {
+        return one;
+    }
+    pairs_safe(
+        numbers,
+        domain,
+        loss,
+        give,
+        ties,
+        order,
+        words,
+        &free,
+    )
 }
 
-// The first slot of lot x from `from` on with which the placed lots may still be finished, as far as they tell; 16 or more where there is none.
+// The lots of an order that are lost or in a set of bits.
+fn narrowed(order: [u8; 24], lots: u32, lost: Lost) -> [u8; 24]
+    requires { ⌜ length order ≡ 24 ⌝ }
+    ensures { λ r. ⌜ Part 24 order r ⌝ }
+{
+    let mut part = [16u8; 24];
+    let mut left = lots;
+    let mut p: u8 = 0;
+    while p < 24 {
+        let at = p as usize;
+        if left % 2 == 1 {
+            part[at] = order[at];
+        }
+        if repair::is_lost(lost, Lot(p)) {
+            part[at] = order[at];
+        }
+        left = left / 2;
+        p += 1;
+    }
+    part
+}
+
+// Why an order with a break that has no repair can not be finished: the lots that the search for a repair met, if they alone have none; else the order.
+fn why_unsafe(
+    numbers: Numbers,
+    domain: &[u16],
+    loss: &[u16],
+    give: &[u16],
+    ties: &[u16],
+    order: [u8; 24],
+    judged: Judged,
+) -> [u8; 24]
+    requires { ⌜ (length order ≡ 24) × (Struck (week numbers (now domain) (now loss) (now give) (now ties)) order (lotsOf (judged .lost)) × None (week numbers (now domain) (now loss) (now give) (now ties)) order) ⌝ }
+    ensures { λ r. ⌜ (length r ≡ 24) × Why (week numbers (now (domain .entry)) (now (loss .entry)) (now (give .entry)) (now (ties .entry))) order r ⌝ }
+{
+    let part = narrowed(order, judged.met, judged.lost);
+    if !robust::is_break(loss, &part, judged.lost) {
+        return order;
+    }
+    let mended = has_repair(numbers, domain, loss, give, ties, &part, judged.lost);
+    if mended.is {
+        return order;
+    }
+    part
+}
+
+// A slot that is tried, the forward words with the lot there, and why the slots before it fail.
+struct Picked {
+    slot: u8,
+    words: [u16; 24],
+    why: [u8; 24],
+}
+
+// The first slot of lot x from `from` on that leaves a slot to each lot, 16 or more where there is none; `why` is why the slots before fail.
 fn pick_slot(
     numbers: Numbers,
     domain: &[u16],
@@ -365,13 +729,17 @@ fn pick_slot(
     ties: &[u16],
     order: [u8; 24],
     words: &[u16],
+    weights: &mut [u16],
     x: Lot,
     from: Slot,
-) -> Slot
-    requires { ⌜ Next (week numbers (now domain) (now loss) (now give) (now ties)) order (now words) (x .0) ⌝ }
-    ensures { λ r. ⌜ r .0 ≡ scanFrom 16 (λ v. hopes (week numbers (now (domain .entry)) (now (loss .entry)) (now (give .entry)) (now (ties .entry))) (set order (x .0) v)) (from .0) ⌝ }
+    why: [u8; 24],
+) -> Picked
+    requires { ⌜ Next (week numbers (now domain) (now loss) (now give) (now ties)) order (now words) (x .0) × Held (week numbers (now domain) (now loss) (now give) (now ties)) order (now words) (x .0) (from .0) why ⌝ }
+    ensures { λ r. ⌜ Picks (week numbers (now (domain .entry)) (now (loss .entry)) (now (give .entry)) (now (ties .entry))) order (now (words .entry)) (x .0) (from .0) r ⌝ }
 {
     let own = week::word_of(words, x);
+    let mut met = [0u16; 24];
+    let mut why = why;
     let mut v = from.0;
     let chosen = 'slots: loop {
         if 16 <= v {
@@ -382,25 +750,39 @@ fn pick_slot(
         if !week::bit(own, Slot(here)) {
             continue 'slots;
         }
-        let met = met_words(numbers.n, ties, words, x, Slot(here));
-        let mut with = order;
-        with[x.0 as usize] = here;
         let mut q: u8 = 0;
         while (q as u32) < numbers.n {
-            if is_starved(&with, &met, Lot(q)) {
-                continue 'slots;
+            let word = met_word(numbers.n, ties, words, x, Slot(here), Lot(q));
+            met[q as usize] = word;
+            if word == 0 {
+                if !is_placed(&order, Lot(q)) {
+                    let mut with = order;
+                    with[x.0 as usize] = here;
+                    let starved = blamed(numbers.n, domain, ties, &with, Lot(q), 0);
+                    why = merged(why, starved, x);
+                    heavier(weights, Lot(q));
+                    continue 'slots;
+                }
             }
             q += 1;
         }
-        if !all_safe(numbers, domain, loss, give, ties, &with) {
-            continue 'slots;
-        }
         break here;
     };
-    Slot(chosen)
+    Picked {
+        slot: chosen,
+        words: met,
+        why,
+    }
 }
 
-// Of the super solutions that extend a partial order, one with the least slot for lot x, if that is below `most`.
+// A super solution, or a part of an order: why there is none.
+struct Tried {
+    is: bool,
+    order: [u8; 24],
+}
+
+// Of the super solutions that extend a partial order, one with the least slot for lot x, if that is below `most`; else a part of the order that rules
+// them out already. A slot fails for a part; where that does not place x no slot of x can help, and the search goes back to a lot that it places.
 fn finish(
     numbers: Numbers,
     domain: &[u16],
@@ -409,15 +791,35 @@ fn finish(
     ties: &[u16],
     order: [u8; 24],
     words: &[u16],
+    weights: &mut [u16],
     x: Lot,
     most: u8,
-) -> Found
-    requires { ⌜ Next (week numbers (now domain) (now loss) (now give) (now ties)) order (now words) (x .0) × (most ≤ 16) ⌝ }
+) -> Tried
+    requires { ⌜ Going (week numbers (now domain) (now loss) (now give) (now ties)) order (now words) × (Best (numbers .n) order (numbers .n) (x .0) × (most ≤ 16)) ⌝ }
     ensures { λ r. ⌜ Finished (week numbers (now (domain .entry)) (now (loss .entry)) (now (give .entry)) (now (ties .entry))) order (x .0) most r ⌝ }
 {
+    let judged = all_safe(numbers, domain, loss, give, ties, &order, words);
+    if !judged.is {
+        heavier_lost(weights, judged.lost);
+        return Tried {
+            is: false,
+            order: why_unsafe(numbers, domain, loss, give, ties, order, judged),
+        };
+    }
+    if numbers.n <= x.0 as u32 {
+        return Tried { is: true, order };
+    }
+    let mut why = blamed(
+        numbers.n,
+        domain,
+        ties,
+        &order,
+        x,
+        week::word_of(words, x),
+    );
     let mut from: u8 = 0;
     loop {
-        let chosen = pick_slot(
+        let picked = pick_slot(
             numbers,
             domain,
             loss,
@@ -425,30 +827,42 @@ fn finish(
             ties,
             order,
             words,
+            weights,
             x,
             Slot(from),
+            why,
         );
-        let v = chosen.0;
+        let v = picked.slot;
         if most <= v {
-            return Found {
+            return Tried {
                 is: false,
-                order: Order { slots: [0; 24] },
+                order: picked.why,
             };
         }
-        let met = met_words(numbers.n, ties, words, x, Slot(v));
+        let met = picked.words;
         let mut with = order;
         with[x.0 as usize] = v;
-        let y = choose(numbers.n, &with, &met);
-        if numbers.n <= y.0 as u32 {
-            return Found {
-                is: true,
-                order: Order { slots: with },
-            };
+        let y = choose(numbers.n, &with, &met, weights);
+        let tried = finish(
+            numbers,
+            domain,
+            loss,
+            give,
+            ties,
+            with,
+            &met,
+            weights,
+            y,
+            16,
+        );
+        if tried.is {
+            return tried;
         }
-        let found = finish(numbers, domain, loss, give, ties, with, &met, y, 16);
-        if found.is {
-            return found;
+        let reason = tried.order;
+        if 16 <= reason[x.0 as usize] {
+            return tried;
         }
+        why = merged(picked.why, reason, x);
         from = v + 1;
     }
 }
@@ -462,6 +876,7 @@ fn least(
     ties: &[u16],
     order: [u8; 24],
     words: &[u16],
+    weights: &mut [u16],
     x: Lot,
     known: [u8; 24],
 ) -> Order
@@ -469,9 +884,22 @@ fn least(
     ensures { λ r. ⌜ (length (r .slots) ≡ 24) × Least (Supers (week numbers (now (domain .entry)) (now (loss .entry)) (now (give .entry)) (now (ties .entry)))) (numbers .n) 16 order (x .0) (r .slots) ⌝ }
 {
     let most = known[x.0 as usize];
-    let found = finish(numbers, domain, loss, give, ties, order, words, x, most);
-    if found.is {
-        return found.order;
+    let tried = finish(
+        numbers,
+        domain,
+        loss,
+        give,
+        ties,
+        order,
+        words,
+        weights,
+        x,
+        most,
+    );
+    if tried.is {
+        return Order {
+            slots: tried.order,
+        };
     }
     Order { slots: known }
 }
@@ -489,15 +917,29 @@ pub fn find_super(
 {
     let mut words = first_words(numbers.n, domain);
     let mut order = [16u8; 24];
-    let x = choose(numbers.n, &order, &words);
-    let found = finish(numbers, domain, loss, give, ties, order, &words, x, 16);
-    if !found.is {
+    let mut weights = [1u16; 24];
+    let x = choose(numbers.n, &order, &words, &weights);
+    let tried = finish(
+        numbers,
+        domain,
+        loss,
+        give,
+        ties,
+        order,
+        &words,
+        &mut weights,
+        x,
+        16,
+    );
+    if !tried.is {
         return Found {
             is: false,
             order: Order { slots: [0; 24] },
         };
     }
-    let mut known = found.order;
+    let mut known = Order {
+        slots: tried.order,
+    };
     let mut slots = [0u8; 24];
     let mut d: u8 = 0;
     while (d as u32) < numbers.n {
@@ -510,6 +952,7 @@ pub fn find_super(
             ties,
             order,
             &words,
+            &mut weights,
             Lot(d),
             known.slots,
         );

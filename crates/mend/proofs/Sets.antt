@@ -6,54 +6,30 @@ use Prim.Native.Nat.{ℕ, zero, suc, _+_, _*_, _/_, _%_, _^_, _<_}
 use native.Mathlib.Decide.{decLt, ℕ-discrete}
 use native.Mathlib.Nat.{mod-lt, div-eq-of-lt, div-one, zero-div, pow-succ', pow-le-pow-right}
 use native.Mathlib.Omega.{arith}
-use lib.Bits.{bitAnd, bitOr, bitXor, and-shr, or-shr, xor-shr, and-mod, or-mod, xor-mod, and-le-l, or-lt, xor-lt}
+use lib.Bits.{bitAnd, bitOr, and-le-l, or-lt, xor-lt}
 use lib.Count.{ones, ones-step, under, trailingZeros}
 use lib.Dec.{eqb}
 use lib.Pow.{pow-lt, shl-exact}
 use borrow.Author.Tests.{eq-eqb, ne-eqb}
 use Rattle.lex.specs.Every.{oneIf, count}
 use Rattle.lex.proofs.Every.{and-left, not-both, false-of, count-cong}
-use Rattle.week.proofs.Words.{half-bit, digit-and}
+use Rattle.week.proofs.Words.{half-bit, place-and, place-or, place-without}
 use Rattle.mend.specs.Sets.{has, SetOf, minus}
 
 -- Bit by bit
 
-digit-lt : (k p : ℕ) → k / 2 ^ p % 2 < 2
-digit-lt k p = mod-lt (k / 2 ^ p) (omega arith)
-
-digit-or : (a b : ℕ) → a < 2 → b < 2 → eqb (bitOr a b) 1 ≡ (eqb a 1 || eqb b 1)
-digit-or zero b h g = refl
-digit-or (suc zero) zero h g = refl
-digit-or (suc zero) (suc zero) h g = refl
-digit-or (suc zero) (suc (suc b)) h g = absurd (omega arith)
-digit-or (suc (suc a)) b h g = absurd (omega arith)
-
-digit-minus : (a b : ℕ) → a < 2 → b < 2 → eqb (bitXor a (bitAnd a b)) 1 ≡ (eqb a 1 && not (eqb b 1))
-digit-minus zero b h g = refl
-digit-minus (suc zero) zero h g = refl
-digit-minus (suc zero) (suc zero) h g = refl
-digit-minus (suc zero) (suc (suc b)) h g = absurd (omega arith)
-digit-minus (suc (suc a)) b h g = absurd (omega arith)
-
 module _ (k j p : ℕ) where
-  and-at : bitAnd k j / 2 ^ p % 2 ≡ bitAnd (k / 2 ^ p % 2) (j / 2 ^ p % 2)
-  and-at = ap (λ (m : ℕ). m % 2) (and-shr k j p) ∙ and-mod (k / 2 ^ p) (j / 2 ^ p) 1
-
   pub has-and : has (bitAnd k j) p ≡ (has k p && has j p)
   unfolding has
-  has-and = ap (λ (m : ℕ). eqb m 1) and-at ∙ digit-and (k / 2 ^ p % 2) (j / 2 ^ p % 2) (digit-lt k p) (digit-lt j p)
+  has-and = place-and k j p
 
   pub has-or : has (bitOr k j) p ≡ (has k p || has j p)
   unfolding has
-  has-or = ap (λ (m : ℕ). eqb (m % 2) 1) (or-shr k j p) ∙ ap (λ (m : ℕ). eqb m 1) (or-mod (k / 2 ^ p) (j / 2 ^ p) 1) ∙ digit-or (k / 2 ^ p % 2) (j / 2 ^ p % 2) (digit-lt k p) (digit-lt j p)
+  has-or = place-or k j p
 
   pub has-minus : has (minus k j) p ≡ (has k p && not (has j p))
   unfolding has minus
-  has-minus =
-      ap (λ (m : ℕ). eqb (m % 2) 1) (xor-shr k (bitAnd k j) p)
-      ∙ ap (λ (m : ℕ). eqb m 1) (xor-mod (k / 2 ^ p) (bitAnd k j / 2 ^ p) 1)
-      ∙ ap (λ (m : ℕ). eqb (bitXor (k / 2 ^ p % 2) m) 1) and-at
-      ∙ digit-minus (k / 2 ^ p % 2) (j / 2 ^ p % 2) (digit-lt k p) (digit-lt j p)
+  has-minus = place-without k j p
 
 -- a lot of a part
 pub part-has : (k j p : ℕ) → has (bitAnd k j) p ≡ true → has k p ≡ true

@@ -1,143 +1,69 @@
--- Going back more than one level: a level whose lot is not in the reason is left without trying its other slots. Where a reason comes from, the reason of a lot
--- whose slots all fail, and the search's steps by it. Assumes nothing.
-use mathlib.Core.Path.{_≡_, sym, _∙_}
-use mathlib.Core.Bool.{Bool, true, false}
-use mathlib.Core.Logic.{_≢_}
+-- Going back more than one level: a reason is a part of a partial order that no order with Q extends. How the reasons of a lot's slots make one for the lot;
+-- and a reason that does not place the lot is one for all its slots. Assumes nothing.
+use mathlib.Core.Path.{_≡_, sym, _∙_, ap}
 use mathlib.Core.List.{List}
-use Prim.Native.Nat.{ℕ, zero, suc, _+_, _-_, _≤_, _<_}
+use Prim.Native.Nat.{ℕ, _+_, _≤_, _<_}
 use native.Mathlib.Decide.{decLt, ℕ-discrete}
 use native.Mathlib.Omega.{arith}
 use lib.ListN.{length, getD, set}
 use lib.Seq.{getD-set-same, getD-set-other}
-use Rattle.lex.proofs.Every.{not-both}
-use Rattle.lex.proofs.Search.{left, left-back}
-use Rattle.parts.specs.Part.{Needed, Decides}
-use Rattle.parts.specs.Reason.{Agrees, Reason, Tried}
-use Rattle.parts.proofs.Part.{extends-set}
-use Rattle.parts.proofs.Search.{Barred, Search, search-extends, search-none, search-skip, search-back, search-back-less}
+use Rattle.parts.specs.Part.{Extends, Above, Merges}
 
--- lots outside E do not matter
-module _ (n k : ℕ) (E : ℕ → Bool) (s t : List ℕ) (p v : ℕ) (out : E p ≡ false) where
-  other : (q : ℕ) → E q ≡ true → getD (set s p v) q 0 ≡ getD s q 0
-  other q o = getD-set-other s p q v 0 (λ e. not-both (rw e at o) out)
+pub extends-trans : (n k : ℕ) (r s t : List ℕ) → Extends n k r s → Extends n k s t → Extends n k r t
+extends-trans n k r s t a b p l h = b p l (rw (a p l h) h) ∙ a p l h
 
-  agrees-set : Agrees n k E s t → Agrees n k E (set s p v) t
-  agrees-set a q l o h = a q l o (rw (other q o) at h) ∙ sym (other q o)
+-- t is a part of s with lot x in slot v that does not place x: it is a part of s
+pub extends-apart : (n k : ℕ) (s t : List ℕ) (x v : ℕ) → k ≤ getD t x 0 → Extends n k t (set s x v) → Extends n k t s
+extends-apart n k s t x v out e p l h = elim (ℕ-discrete p x) [
+  | yes z ↦ absurd (let a = ap (λ (q : ℕ). getD t q 0) z in omega arith)
+  | no z ↦ sym (getD-set-other s x p v 0 z) ∙ e p l h
+]
 
-  agrees-unset : Agrees n k E (set s p v) t → Agrees n k E s t
-  agrees-unset a q l o h = a q l o (rw (other q o) h) ∙ other q o
+-- a is a part of s, which does not place lot x, b one of s with x in slot v, and r has the lots of both but x
+pub record Join (n k : ℕ) (s a b : List ℕ) (x v : ℕ) (r : List ℕ) : Type 0 where
+  pub inside : x < length s
+  pub lot : x < n
+  pub idle : k ≤ getD s x 0
+  pub part : Extends n k a s
+  pub next : Extends n k b (set s x v)
+  pub merges : Merges n k a b x r
 
--- Where a reason comes from, and where it holds too
+module _ {n k : ℕ} {s a b : List ℕ} {x v : ℕ} {r : List ℕ} (c : Join n k s a b x v r) where
+  free : k ≤ getD a x 0
+  free = elim (decLt (getD a x 0) k) [
+    | yes h ↦ absurd (let e = c .part x (c .lot) h in let i = c .idle in omega arith)
+    | no h ↦ omega arith
+  ]
 
-module _ (Q : List ℕ → Type 0) (n k : ℕ) (from s : List ℕ) (E : ℕ → Bool) where
-  -- s cut down to the lots of E, which is u, fails a test that is needed
-  pub reason-test : (ok : List ℕ → Bool) → Needed Q n k ok → (u : List ℕ) → ok u ≡ false → ((p : ℕ) → p < n → getD u p 0 < k → (E p ≡ true) × (getD u p 0 ≡ getD s p 0)) → Reason Q n k from s E
-  reason-test ok m u f cut t q e a = not-both (m .needed u t q (λ p l h. let c = cut p l h in a p l (c .0) (rw (c .1) at h) ∙ sym (c .1))) f
+  beside : (p : ℕ) → p < n → (p ≡ x → ⊥) → getD b p 0 < k → getD s p 0 ≡ getD b p 0
+  beside p l z h = sym (getD-set-other s x p v 0 z) ∙ c .next p l h
 
-  -- a larger set is a reason too
-  pub reason-more : (F : ℕ → Bool) → ((p : ℕ) → p < n → E p ≡ true → F p ≡ true) → Reason Q n k from s E → Reason Q n k from s F
-  reason-more F g r t q e a = r t q e (λ p l o h. a p l (g p l o) h)
+  pub merged-part : Extends n k r s
+  merged-part p l h = elim (decLt (getD a p 0) k) [
+    | yes g ↦ c .part p l g ∙ sym (c .merges .own p l g)
+    | no g ↦ elim (ℕ-discrete p x) [
+      | yes z ↦ absurd (let e = c .merges .self (c .lot) free in let f = ap (λ (q : ℕ). getD r q 0) z in omega arith)
+      | no z ↦ let e = c .merges .other p l (omega arith) z in beside p l z (rw e at h) ∙ sym e
+    ]
+  ]
 
-  -- a lot outside E may be stored anew, or be placed no more
-  pub reason-store : (p v : ℕ) → E p ≡ false → Reason Q n k from s E → Reason Q n k from (set s p v) E
-  reason-store p v f r t q e a = r t q e (agrees-unset n k E s t p v f a)
+  pub merged-more : Extends n k a r
+  merged-more p l h = c .merges .own p l h
 
-  -- a slot fails for a reason that does not name its lot: s fails for it, whatever slots of that lot are left
-  pub reason-past : (p v : ℕ) → E p ≡ false → Reason Q n k from (set s p v) E → Reason Q n k from s E
-  reason-past p v f r t q e a = r t q e (agrees-set n k E s t p v f a)
-
-  -- The reason of a lot p that s does not place, from those of its slots
-
-  module _ (p : ℕ) where
-    pub tried-none : Tried Q n k from s E p 0
-    tried-none t q e a = omega arith
-
-    -- slot v fails for the reason F: what is tried now has a reason G that holds E, and F but for p itself
-    pub tried-slot : (F G : ℕ → Bool) (v : ℕ) → p < length s → ((q : ℕ) → q < n → E q ≡ true → G q ≡ true) → ((q : ℕ) → q < n → q ≢ p → F q ≡ true → G q ≡ true) → Tried Q n k from s E p v → Reason Q n k from (set s p v) F → Tried Q n k from s G p (v + 1)
-    tried-slot F G v i g h c r t q e a =
-        let b = c t q e (λ x l o m. a x l (g x l o) m) in
-        elim (decLt v (getD t p 0)) [
-          | yes l ↦ omega arith
-          | no l ↦ absurd (r t q e (with-p (omega arith)))
-        ]
-      where
-        with-p : getD t p 0 ≡ v → Agrees n k F (set s p v) t
-        with-p z x l o m = elim (ℕ-discrete x p) [
-          | yes w ↦ rw (w, getD-set-same s p v 0 i) z
-          | no w ↦ let u = getD-set-other s p x v 0 w in a x l (h x l w o) (rw u at m) ∙ sym u
-        ]
-
-    -- no slot is left
-    pub tried-all : (v : ℕ) → ((t : List ℕ) → Q t → (q : ℕ) → q < n → getD t q 0 < k) → p < n → k ≤ v → Tried Q n k from s E p v → Reason Q n k from s E
-    tried-all v under l h c t q e a = let b = c t q e a in let u = under t q p l in omega arith
-
-    -- what is known of a level stays, whatever becomes of the lots outside its set
-    pub tried-store : (v x w : ℕ) → E x ≡ false → Tried Q n k from s E p v → Tried Q n k from (set s x w) E p v
-    tried-store v x w f c t q e a = c t q e (agrees-unset n k E s t x w f a)
-
--- The steps of the search
-
-module _ {Q : List ℕ → Type 0} {n k : ℕ} {from s lots slots : List ℕ} {d v : ℕ} (c : Search Q n k from s lots slots d v) where
-  -- slot v of the level's lot fails for the reason E
-  pub reason-skip : (E : ℕ → Bool) → Reason Q n k from (set s (getD lots d 0) v) E → Search Q n k from s lots slots d (v + 1)
-  reason-skip E r =
-      search-skip c (v + 1)
-      (λ t q e f l. elim (decLt v (getD t (getD lots d 0) 0)) [
+  -- slot v fails for b, and the slots below it for a
+  pub merged-above : (Q : List ℕ → Type 0) → Above Q n k a x v → ((u : List ℕ) → Q u → Extends n k b u → ⊥) → Above Q n k r x (v + 1)
+  merged-above Q f g u q e =
+      let w = f u q (extends-trans n k a r u merged-more e) in
+      elim (decLt v (getD u x 0)) [
         | yes h ↦ omega arith
-        | no h ↦ absurd (r t q e (λ p m o g. extends-set n k s (getD lots d 0) v (omega (arith, c .lot, c .long)) t f (omega arith) p m g))
-      ])
-
-  -- s fails for the reason E
-  module _ (E : ℕ → Bool) (r : Reason Q n k from s E) where
-    barred : Barred Q n k from lots slots d
-    barred t q e f = r t q e (λ p l o h. search-extends c t e f p l h)
-
-    -- no level is left
-    pub reason-none : (o : List ℕ) → d ≡ 0 → Decides Q n k from false o
-    reason-none o e = search-none c o barred e
-
-    -- the search goes back one level, whatever slots of level d are left
-    pub reason-back : 0 < d → Search Q n k from (set s (getD lots (d - 1) 0) k) lots slots (d - 1) (getD slots (d - 1) 0 + 1)
-    reason-back h = search-back c barred h
-
-    pub reason-back-less : 0 < d → left k n slots (d - 1) (getD slots (d - 1) 0 + 1) < left k n slots d v
-    reason-back-less h = search-back-less c barred h
-
-    -- and where that level's lot is not in E, it fails there for the same reason
-    pub reason-stays : E (getD lots (d - 1) 0) ≡ false → Reason Q n k from (set s (getD lots (d - 1) 0) k) E
-    reason-stays f = reason-store Q n k from s E (getD lots (d - 1) 0) k f r
-
--- So the search may go back to a level at once, where no level above it placed a lot of the reason
-
--- s without the lots of the i levels below d
-pub without : ℕ → List ℕ → List ℕ → ℕ → ℕ → List ℕ
-without k lots s d zero = s
-without k lots s d (suc i) = set (without k lots s d i) (getD lots (d - suc i) 0) k
-
--- the i levels below d placed no lot of E
-abbrev pub Spared : List ℕ → ℕ → (ℕ → Bool) → ℕ → Type 0
-Spared lots d E i = (j : ℕ) → 0 < j → j ≤ i → E (getD lots (d - j) 0) ≡ false
-
-module _ {Q : List ℕ → Type 0} {n k : ℕ} {from s lots slots : List ℕ} {d v : ℕ} (c : Search Q n k from s lots slots d v) (E : ℕ → Bool) (r : Reason Q n k from s E) where
-  stays : (i : ℕ) → Spared lots d E i → Reason Q n k from (without k lots s d i) E
-  unfolding without
-  stays zero f = r
-  stays (suc i) f = reason-store Q n k from (without k lots s d i) E (getD lots (d - suc i) 0) k (f (suc i) (omega arith) (omega arith)) (stays i (λ j l m. f j l (omega arith)))
-
-  pub reason-jump : (i : ℕ) → i < d → Spared lots d E i → Search Q n k from (without k lots s d (suc i)) lots slots (d - suc i) (getD slots (d - suc i) 0 + 1)
-  unfolding without
-  reason-jump zero h f = reason-back c E r h
-  reason-jump (suc i) h f = rw one-more at (reason-back (reason-jump i (omega arith) (λ j l m. f j l (omega arith))) E (stays (suc i) f) (omega arith))
+        | no h ↦ absurd (g u q (all (omega arith)))
+      ]
     where
-      one-more : d - suc i - 1 ≡ d - suc (suc i)
-      one-more = omega arith
-
-  pub reason-jump-less : (i : ℕ) → i < d → left k n slots (d - suc i) (getD slots (d - suc i) 0 + 1) < left k n slots d v
-  reason-jump-less zero h = reason-back-less c E r h
-  reason-jump-less (suc i) h = let a = reason-jump-less i (omega arith) in let b = rw (one-more, one-less) at (left-back k n slots (d - suc i - 1) (getD slots (d - suc i) 0 + 1)) in omega arith
-    where
-      one-more : d - suc i - 1 ≡ d - suc (suc i)
-      one-more = omega arith
-
-      one-less : d - suc (suc i) + 1 ≡ d - suc i
-      one-less = omega arith
+      all : getD u x 0 ≡ v → Extends n k b u
+      all i p l h = elim (ℕ-discrete p x) [
+        | yes z ↦ ap (λ (y : ℕ). getD u y 0) z ∙ i ∙ sym (getD-set-same s x v 0 (c .inside)) ∙ ap (λ (y : ℕ). getD (set s x v) y 0) (sym z) ∙ c .next p l h
+        | no z ↦ elim (decLt (getD a p 0) k) [
+          | yes y ↦ e p l (rw (c .merges .own p l y) y) ∙ c .merges .own p l y ∙ sym (c .part p l y) ∙ beside p l z h
+          | no y ↦ let o = c .merges .other p l (omega arith) z in e p l (rw o h) ∙ o
+        ]
+      ]

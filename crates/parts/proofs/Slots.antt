@@ -9,12 +9,8 @@ use native.Mathlib.Omega.{arith}
 use lib.ListN.{length, getD, set, take}
 use lib.Seq.{getD-set-same}
 use Rattle.lex.proofs.Every.{not-both}
-use Rattle.parts.specs.Part.{Extends, Needed, Decides, Least}
+use Rattle.parts.specs.Part.{Extends, Needed, Decides, Above, Least}
 use Rattle.parts.proofs.Part.{extends-set, extends-unset}
-
--- no order with Q that extends s has lot p in a slot below v
-abbrev pub Above : (List ℕ → Type 0) → ℕ → ℕ → List ℕ → ℕ → ℕ → Type 0
-Above Q n k s p v = (t : List ℕ) → Q t → Extends n k s t → v ≤ getD t p 0
 
 pub above-start : (Q : List ℕ → Type 0) (n k : ℕ) (s : List ℕ) (p : ℕ) → Above Q n k s p 0
 above-start Q n k s p t q e = omega arith

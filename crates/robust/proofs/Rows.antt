@@ -1,7 +1,7 @@
 -- The sets that a repair table's rows stand for, by their numbers; and what each row asks of an order.
 -- Assumes nothing.
 use mathlib.Core.Path.{_≡_, refl, sym, _∙_, ap}
-use mathlib.Core.Bool.{Bool, true, false, _&&_, cond, and-true, and-self}
+use mathlib.Core.Bool.{Bool, true, false, _&&_, not, cond, and-true, and-self}
 use mathlib.Core.List.{List, [], _∷_, _++_, map, flatMap, append-nil}
 use Prim.Native.Nat.{ℕ, zero, suc, _+_, _-_, _≤_, _<_}
 use native.Mathlib.Omega.{arith}
@@ -11,15 +11,18 @@ use native.Mathlib.Numerals.{add-one}
 use lib.Dec.{eqb}
 use lib.ListN.{length, getD, length-append, length-map, List·getD-append}
 use lib.Seq.{getD-append-add}
-use borrow.Author.Tests.{eqb-true}
+use borrow.Author.Tests.{eqb-true, not-true, not-false}
 use Rattle.lex.specs.Every.{every, everyOf}
-use Rattle.lex.proofs.Every.{same-truth, both, and-left, and-right, every-true, every-at}
+use Rattle.lex.specs.Lists.{same}
+use Rattle.lex.proofs.Every.{same-truth, both, and-left, and-right, not-both, every-true, every-at, every-miss}
+use Rattle.lex.proofs.Lists.{same-eq, same-self}
 use Rattle.repair.specs.declared.Lost.{Lost}
 use Rattle.repair.specs.Break.{lotsFrom, single, pair, singles, pairsOf, pairs, lostSets, breaks, rowCount}
 use Rattle.repair.specs.Found.{lotsOf}
 use Rattle.repair.proofs.Break.{lots-single, lots-pair}
 use Rattle.repair.proofs.Rows.{length-lots}
 use Rattle.week.specs.Rules.{bitOf}
+use Rattle.robust.proofs.Super.{single-read, pair-read, sets-read}
 
 -- Lists by their places
 
@@ -167,3 +170,27 @@ count-most n zero h = omega arith
 count-most n (suc zero) h = let e = ap length (append-nil (singles n)) in let f = length-append (singles n) (pairs n) in omega arith
 count-most n (suc (suc zero)) h = omega arith
 count-most n (suc (suc (suc a))) h = absurd (omega arith)
+
+-- the row of a set, where a test of every set reaches it
+pub record Row (n a : ℕ) (A : List ℕ) : Type 0 where
+  pub at : ℕ
+  pub low : at < rowCount n a
+  pub set : A ≡ getD (lostSets n a) at []
+
+module _ (n a : ℕ) (A : List ℕ) where
+  abbrev other : List ℕ → Bool
+  other B = not (same A B)
+
+  row-of : (everyOf other (lostSets n a) ≡ true → other A ≡ true) → Row n a A
+  unfolding rowCount
+  row-of h = go (everyOf other (lostSets n a)) refl
+    where
+      go : (t : Bool) → everyOf other (lostSets n a) ≡ t → Row n a A
+      go true e = absurd (not-both (same-self A) (not-true (same A A) (h e)))
+      go false e = let m = every-miss (λ i. other (getD (lostSets n a) i [])) (length (lostSets n a)) (sym (every-row other (lostSets n a)) ∙ e) in record { at = m .at; low = m .below; set = same-eq A (getD (lostSets n a) (m .at) []) (not-false (same A (getD (lostSets n a) (m .at) [])) (m .fails)) }
+
+pub row-single : (n a p : ℕ) → 0 < a → p < n → Row n a (single p)
+row-single n a p h l = row-of n a (single p) (λ e. single-read (other n a (single p)) n (sets-read (other n a (single p)) n a e .0 h) p l)
+
+pub row-pair : (n a p q : ℕ) → 1 < a → p < q → q < n → Row n a (pair p q)
+row-pair n a p q h l m = row-of n a (pair p q) (λ e. pair-read (other n a (pair p q)) n (sets-read (other n a (pair p q)) n a e .1 h) p q l m)

@@ -1,14 +1,14 @@
--- Words of slots: a word is known by its bits, and what `&` and `|` say of the bits. And places in the tie table.
+-- Words of slots: a word is known by its bits, and what `&`, `|` and taking away say of the bits. And places in the tie table.
 -- Assumes nothing.
 use mathlib.Core.Path.{_≡_, refl, sym, _∙_, ap}
-use mathlib.Core.Bool.{Bool, true, false, _&&_, _||_}
+use mathlib.Core.Bool.{Bool, true, false, _&&_, _||_, not}
 use Prim.Native.Nat.{ℕ, zero, suc, _*_, _/_, _%_, _^_, _≤_, _<_}
 use native.Mathlib.Nat.{mod-lt, mul-le-mul, div-div-eq-div-mul, pow-succ', div-one, zero-div}
 use native.Mathlib.Omega.{arith}
 use mathlib.Core.List.{List}
 use lib.Dec.{eqb, ltb}
 use lib.ListN.{length, getD, List·getD-eq-default}
-use lib.Bits.{bitAnd, bitOr, and-shr, and-mod, and-le-l, or-shr, or-mod}
+use lib.Bits.{bitAnd, bitOr, bitXor, and-shr, and-mod, and-le-l, or-shr, or-mod, xor-shr, xor-mod}
 use borrow.Author.Tests.{eqb-true, eq-eqb, lt-ltb, ltb-true}
 use Rattle.lex.specs.Every.{imp, every}
 use Rattle.lex.proofs.Every.{same-truth, false-of, imp-in, imp-out, every-true, every-at, and-left, and-right}
@@ -29,7 +29,7 @@ digits-same (suc k) x y h g e =
 
 -- Bit by bit
 
-pub digit-and : (a b : ℕ) → a < 2 → b < 2 → eqb (bitAnd a b) 1 ≡ (eqb a 1 && eqb b 1)
+digit-and : (a b : ℕ) → a < 2 → b < 2 → eqb (bitAnd a b) 1 ≡ (eqb a 1 && eqb b 1)
 digit-and zero b h g = refl
 digit-and (suc zero) zero h g = refl
 digit-and (suc zero) (suc zero) h g = refl
@@ -50,6 +50,14 @@ digit-keeps zero b h g e = refl
 digit-keeps (suc zero) b h g e = rw (e refl)
 digit-keeps (suc (suc a)) b h g e = absurd (omega arith)
 
+digit-without : (a b : ℕ) → a < 2 → b < 2 → eqb (bitXor a (bitAnd a b)) 1 ≡ (eqb a 1 && not (eqb b 1))
+digit-without zero b h g = refl
+digit-without (suc zero) zero h g = refl
+digit-without (suc zero) (suc zero) h g = refl
+digit-without (suc zero) (suc (suc b)) h g = absurd (omega arith)
+digit-without (suc (suc a)) b h g = absurd (omega arith)
+
+-- at any place, of numbers of any width
 module _ (x y v : ℕ) where
   and-at : bitAnd x y / 2 ^ v % 2 ≡ bitAnd (x / 2 ^ v % 2) (y / 2 ^ v % 2)
   and-at = ap (λ (m : ℕ). m % 2) (and-shr x y v) ∙ and-mod (x / 2 ^ v) (y / 2 ^ v) 1
@@ -57,12 +65,25 @@ module _ (x y v : ℕ) where
   digit-lt : (z : ℕ) → z / 2 ^ v % 2 < 2
   digit-lt z = mod-lt (z / 2 ^ v) (omega arith)
 
+  pub place-and : eqb (bitAnd x y / 2 ^ v % 2) 1 ≡ (eqb (x / 2 ^ v % 2) 1 && eqb (y / 2 ^ v % 2) 1)
+  place-and = ap (λ (m : ℕ). eqb m 1) and-at ∙ digit-and (x / 2 ^ v % 2) (y / 2 ^ v % 2) (digit-lt x) (digit-lt y)
+
+  pub place-or : eqb (bitOr x y / 2 ^ v % 2) 1 ≡ (eqb (x / 2 ^ v % 2) 1 || eqb (y / 2 ^ v % 2) 1)
+  place-or = ap (λ (m : ℕ). eqb m 1) or-at ∙ digit-or (x / 2 ^ v % 2) (y / 2 ^ v % 2) (digit-lt x) (digit-lt y)
+    where
+      or-at : bitOr x y / 2 ^ v % 2 ≡ bitOr (x / 2 ^ v % 2) (y / 2 ^ v % 2)
+      or-at = ap (λ (m : ℕ). m % 2) (or-shr x y v) ∙ or-mod (x / 2 ^ v) (y / 2 ^ v) 1
+
+  pub place-without : eqb (bitXor x (bitAnd x y) / 2 ^ v % 2) 1 ≡ (eqb (x / 2 ^ v % 2) 1 && not (eqb (y / 2 ^ v % 2) 1))
+  place-without = ap (λ (m : ℕ). eqb m 1) (xor-at ∙ ap (bitXor (x / 2 ^ v % 2)) and-at) ∙ digit-without (x / 2 ^ v % 2) (y / 2 ^ v % 2) (digit-lt x) (digit-lt y)
+    where
+      xor-at : bitXor x (bitAnd x y) / 2 ^ v % 2 ≡ bitXor (x / 2 ^ v % 2) (bitAnd x y / 2 ^ v % 2)
+      xor-at = ap (λ (m : ℕ). m % 2) (xor-shr x (bitAnd x y) v) ∙ xor-mod (x / 2 ^ v) (bitAnd x y / 2 ^ v) 1
+
   -- the bits of a meet
   pub bit-and : bitOf (bitAnd x y) v ≡ (bitOf x v && bitOf y v)
   unfolding bitOf
-  bit-and =
-      ap (λ (t : Bool). ltb v 16 && t) (ap (λ (m : ℕ). eqb m 1) and-at ∙ digit-and (x / 2 ^ v % 2) (y / 2 ^ v % 2) (digit-lt x) (digit-lt y))
-      ∙ spread (ltb v 16) (eqb (x / 2 ^ v % 2) 1) (eqb (y / 2 ^ v % 2) 1)
+  bit-and = ap (λ (t : Bool). ltb v 16 && t) place-and ∙ spread (ltb v 16) (eqb (x / 2 ^ v % 2) 1) (eqb (y / 2 ^ v % 2) 1)
     where
       spread : (p q r : Bool) → (p && (q && r)) ≡ ((p && q) && (p && r))
       spread true q r = refl
@@ -71,14 +92,18 @@ module _ (x y v : ℕ) where
   -- the bits of a join
   pub bit-or : bitOf (bitOr x y) v ≡ (bitOf x v || bitOf y v)
   unfolding bitOf
-  bit-or =
-      ap (λ (t : Bool). ltb v 16 && t) (ap (λ (m : ℕ). eqb m 1) or-at ∙ digit-or (x / 2 ^ v % 2) (y / 2 ^ v % 2) (digit-lt x) (digit-lt y))
-      ∙ spread (ltb v 16) (eqb (x / 2 ^ v % 2) 1) (eqb (y / 2 ^ v % 2) 1)
+  bit-or = ap (λ (t : Bool). ltb v 16 && t) place-or ∙ spread (ltb v 16) (eqb (x / 2 ^ v % 2) 1) (eqb (y / 2 ^ v % 2) 1)
     where
-      or-at : bitOr x y / 2 ^ v % 2 ≡ bitOr (x / 2 ^ v % 2) (y / 2 ^ v % 2)
-      or-at = ap (λ (m : ℕ). m % 2) (or-shr x y v) ∙ or-mod (x / 2 ^ v) (y / 2 ^ v) 1
-
       spread : (p q r : Bool) → (p && (q || r)) ≡ ((p && q) || (p && r))
+      spread true q r = refl
+      spread false q r = refl
+
+  -- the bits of a word without those of another
+  pub bit-without : bitOf (bitXor x (bitAnd x y)) v ≡ (bitOf x v && not (bitOf y v))
+  unfolding bitOf
+  bit-without = ap (λ (t : Bool). ltb v 16 && t) place-without ∙ spread (ltb v 16) (eqb (x / 2 ^ v % 2) 1) (eqb (y / 2 ^ v % 2) 1)
+    where
+      spread : (p q r : Bool) → (p && (q && not r)) ≡ ((p && q) && not (p && r))
       spread true q r = refl
       spread false q r = refl
 
