@@ -1,5 +1,5 @@
 -- Forward words: one more placed lot takes from every other lot's word the slots that clash with it, by one meet with a tie word; a lot that is not placed
--- lives while its word is not 0. So a slot that is tried needs only those words looked at. Assumes nothing.
+-- lives while its word is not 0. Assumes nothing.
 use mathlib.Core.Path.{_≡_, refl, sym, _∙_, ap}
 use mathlib.Core.Bool.{Bool, true, false, _&&_, not, and-true}
 use mathlib.Core.Logic.{_≢_}
@@ -11,16 +11,15 @@ use lib.Bits.{bitAnd, and-zero-r}
 use lib.Dec.{eqb}
 use lib.ListN.{length, getD, set}
 use lib.Seq.{getD-set-same, getD-set-other}
-use borrow.Author.Tests.{eqb-true, eq-eqb, le-ltb, not-true}
+use borrow.Author.Tests.{eqb-true, eq-eqb, ne-eqb, le-ltb, not-true, not-false}
 use Rattle.lex.specs.Every.{imp, every}
-use Rattle.lex.proofs.Every.{both, and-left, and-right, not-both, same-truth, imp-in, every-true, every-at, every-false}
+use Rattle.lex.proofs.Every.{both, and-left, and-right, not-both, same-truth, imp-in, every-true, every-at, every-false, every-miss}
 use Rattle.week.specs.Rules.{Rules, bitOf, inside, inDomain, tieWord, together}
-use Rattle.week.specs.Tables.{Week, lots, pairRules}
 use Rattle.week.proofs.Rules.{Symmetric}
 use Rattle.week.proofs.Words.{bit-and, bit-zero, inside-and}
-use Rattle.parts.specs.Part.{placed, Empty}
-use Rattle.cuts.specs.Cut.{whole, robustOn}
-use Rattle.cuts.specs.Hopes.{suits, isLeft, Forward, any, lives, alive, hopes}
+use Rattle.parts.specs.Part.{Empty}
+use Rattle.cuts.specs.Cut.{whole}
+use Rattle.cuts.specs.Hopes.{suits, isLeft, Forward, any, lives, alive}
 use Rattle.cuts.proofs.Hopes.{suits-free, suits-with, suits-else, suits-own, suits-make, suits-at, suits-read, left-domain, left-suits, lives-here, lives-free}
 
 -- slots over 15 are in no word
@@ -60,12 +59,7 @@ module _ (R : Rules) (s : List ℕ) (x v : ℕ) (inside-s : x < length s) (lot :
         | no z ↦ suits-else R s x v p w q z ∙ suits-at R whole s p w (left-suits R s p w f) q l refl
       ])))
 
-  -- x clashes where it goes
-  pub alive-out : isLeft R s x v ≡ false → alive R t ≡ false
-  unfolding alive
-  alive-out e = every-false (lives R t) (R .lots) x lot (lives-here R t x (rw (getD-set-same s x v 0 inside-s) low) ∙ ap (isLeft R t x) (getD-set-same s x v 0 inside-s) ∙ left-own v ∙ e)
-
-  -- x does not, and the placed lots lived before: they do, and only the others need be looked at
+  -- x clashes with no lot where it goes, and the placed lots lived before: they do, and only the others need be looked at
   pub alive-place : Symmetric R → alive R s ≡ true → isLeft R s x v ≡ true → ((p : ℕ) → p < R .lots → 16 ≤ getD t p 0 → lives R t p ≡ true) → alive R t ≡ true
   unfolding alive
   alive-place mirror e f rest = every-true (lives R t) (R .lots) (λ p l. elim (decLt (getD t p 0) 16) [
@@ -111,24 +105,13 @@ any-word f y h g = ap not (same-truth (every (λ v. not (f v)) 16) (eqb y 0) emp
     none : eqb y 0 ≡ true → every (λ v. not (f v)) 16 ≡ true
     none e = every-true (λ v. not (f v)) 16 (λ v l. ap not (sym (g v) ∙ ap (λ (z : ℕ). bitOf z v) (eqb-true y 0 e) ∙ bit-zero v))
 
+-- a word that is not 0 has a slot
+pub word-some : (y : ℕ) → y < 2 ^ 16 → (y ≡ 0 → ⊥) → (v : ℕ) × (bitOf y v ≡ true)
+unfolding any
+word-some y h d =
+    let m = every-miss (λ v. not (bitOf y v)) 16 (not-true (every (λ v. not (bitOf y v)) 16) (any-word (bitOf y) y h (λ v. refl) ∙ ap not (ne-eqb y 0 d))) in
+    (m .at, not-false (bitOf y (m .at)) (m .fails))
+
 -- a lot that is not placed lives where its forward word is not 0
 pub lives-word : (R : Rules) (s words : List ℕ) → Forward R s words → (p : ℕ) → p < R .lots → getD words p 0 < 2 ^ 16 → 16 ≤ getD s p 0 → lives R s p ≡ not (eqb (getD words p 0) 0)
 lives-word R s words f p l h g = lives-free R s p g ∙ any-word (isLeft R s p) (getD words p 0) h (f p l)
-
--- Hope, slot by slot: lot x, which s does not place, is tried in slot v
-
-module _ (W : Week) (s : List ℕ) (x v : ℕ) (inside-s : x < length s) (lot : x < lots W) (idle : 16 ≤ getD s x 0) (low : v < 16) where
-  -- the slot is not in the forward word
-  pub hopes-out : isLeft (pairRules W) s x v ≡ false → hopes W (set s x v) ≡ false
-  unfolding hopes
-  hopes-out e = rw (alive-out (pairRules W) s x v inside-s lot idle low e)
-
-  -- it leaves no slot to lot p
-  pub hopes-starved : (p : ℕ) → p < lots W → lives (pairRules W) (set s x v) p ≡ false → hopes W (set s x v) ≡ false
-  unfolding hopes alive
-  hopes-starved p l e = rw (every-false (lives (pairRules W) (set s x v)) (lots W) p l e)
-
-  -- it leaves one to each that is not placed: the breaks decide
-  pub hopes-breaks : Symmetric (pairRules W) → alive (pairRules W) s ≡ true → isLeft (pairRules W) s x v ≡ true → ((p : ℕ) → p < lots W → 16 ≤ getD (set s x v) p 0 → lives (pairRules W) (set s x v) p ≡ true) → robustOn W (placed 16 (set s x v)) (set s x v) ≡ hopes W (set s x v)
-  unfolding hopes
-  hopes-breaks mirror e f rest = rw (alive-place (pairRules W) s x v inside-s lot idle low mirror e f rest)

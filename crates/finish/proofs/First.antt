@@ -20,14 +20,14 @@ use Rattle.week.proofs.Tables.{accepted}
 use Rattle.robust.specs.Super.{firstSuper}
 use Rattle.parts.specs.Part.{placed, Extends, Least}
 use Rattle.parts.proofs.Outer.{Fixed, fixed-start, fixed-next}
-use Rattle.parts.proofs.Slots.{above-all}
 use Rattle.cuts.specs.Cut.{robustOn}
 use Rattle.cuts.specs.Hopes.{Forward, lives, alive, hopes, Supers}
 use Rattle.cuts.proofs.Hopes.{supers-long, supers-under, hopes-tested, super-none, super-found}
 use Rattle.cuts.proofs.Words.{forward-start, lives-word}
 use Rattle.finish.specs.Tests.{metWord, Made}
 use Rattle.finish.specs.Search.{Best, Going, Next, Answers, Known}
-use Rattle.finish.proofs.Search.{blank, met-forward}
+use Rattle.finish.proofs.Blame.{blank}
+use Rattle.finish.proofs.Search.{forward-next}
 
 -- Where no lot is placed
 
@@ -58,19 +58,9 @@ module _ (W : Week) (fine : refusal W ≡ 0) (words : List ℕ) (made : Made (lo
     live = every-true (lives (pairRules W) none-placed) (lots W) (λ p l. lives-word (pairRules W) none-placed words words-forward p l (made .narrow p l) (blank (lots W) few p l) ∙ ap not (filled p l));
   }
 
-  module _ (x : ℕ) (b : Best (lots W) none-placed (lots W) x) where
-    pub next-start : Next W none-placed words x
-    next-start = record { going = going-start; lot = some-lot; idle = blank (lots W) few x some-lot }
-      where
-        some-lot : x < lots W
-        some-lot = elim (decLt x (lots W)) [
-          | yes h ↦ h
-          | no h ↦ absurd (let z = b .high in let u = b .full (omega arith) 0 (let s = accepted W fine .limits .some in omega arith) in let v = blank (lots W) few 0 (let s = accepted W fine .limits .some in omega arith) in omega arith)
-        ]
-
-    -- nothing is found
-    pub first-none : (o : List ℕ) → Answers W none-placed x 16 false o → firstSuper W ≡ none
-    first-none o f = super-none W none-placed o (blank (lots W) few) (above-all (Supers W) (lots W) 16 (hopes W) (hopes-tested W .must) none-placed x 16 o (next-start .lot) (omega arith) f)
+  -- nothing is found
+  pub first-none : (x : ℕ) (o : List ℕ) → Best (lots W) none-placed (lots W) x → Answers W none-placed x 16 false o → firstSuper W ≡ none
+  first-none x o b f = super-none W none-placed o (blank (lots W) few) (λ u q e. let a = f .1 u q (λ p l h. absurd (let z = f .0 p l h in let y = blank (lots W) few p l in omega arith)) in let d = supers-under W u q x (a .0) in let z = a .1 in omega arith)
 
 -- The loop over the lots: those below d are fixed in `order`, known is a super solution that extends it, and `slots` has what is fixed, and 0 beyond
 
@@ -87,7 +77,7 @@ pub record Outer (W : Week) (order words known slots : List ℕ) (d : ℕ) : Typ
 pub outer-start : (W : Week) (fine : refusal W ≡ 0) (words : List ℕ) → Made (lots W) (λ p. getD (W .domain) p 0) words → (x : ℕ) (o : List ℕ) → length o ≡ 24 → Answers W (replicate 24 16) x 16 true o → Outer W (replicate 24 16) words o (replicate 24 0) 0
 outer-start W fine words made x o long f = record {
   going = going-start W fine words made;
-  fixed = fixed-start (replicate 24 16) o few′ (blank (lots W) few′) (f .has, f .extends);
+  fixed = fixed-start (replicate 24 16) o few′ (blank (lots W) few′) (f .0);
   words-size = made .size;
   known-size = long;
   size = refl;
@@ -125,7 +115,7 @@ module _ {W : Week} {order words known slots : List ℕ} {d : ℕ} (c : Outer W 
       going = record {
         fine = c .going .fine;
         size = rw length-set (c .going .size);
-        forward = met-forward (outer-next h) v least-low met made;
+        forward = forward-next (outer-next h) least-low made;
         narrow = made .narrow;
         live = and-left (alive (pairRules W) (set order d v)) (robustOn W (placed 16 (set order d v)) (set order d v)) (hopes-tested W .must .needed (set order d v) (take (lots W) r) (l .has) extends′);
       };

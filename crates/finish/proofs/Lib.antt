@@ -1,3 +1,5 @@
 pub mod Tests
+pub mod Blame
+pub mod Safe
 pub mod Search
 pub mod First

@@ -2,8 +2,9 @@
 use mathlib.Core.Path.{_≡_, refl, sym, _∙_, ap, ap₂}
 use mathlib.Core.Bool.{Bool, true, false, _&&_, _||_, not, cond, and-assoc}
 use mathlib.Core.List.{List, []}
-use Prim.Native.Nat.{ℕ, _+_, _^_, _≤_, _<_}
+use Prim.Native.Nat.{ℕ, _+_, _*_, _^_, _≤_, _<_}
 use native.Mathlib.Decide.{decLt, ℕ-discrete}
+use native.Mathlib.Nat.{mul-le-mul}
 use native.Mathlib.Omega.{arith}
 use lib.Bits.{bitAnd}
 use lib.Dec.{eqb, leb}
@@ -11,24 +12,26 @@ use lib.ListN.{length, getD, set, replicate, length-set}
 use lib.Seq.{getD-set-same, getD-set-other}
 use borrow.Author.Tests.{ltb-true, ltb-false, le-ltb, eq-eqb, ne-eqb, not-true}
 use Rattle.lex.specs.Every.{imp, every, count}
+use Rattle.lex.specs.Lists.{listOf}
 use Rattle.lex.specs.Scan.{scanFrom}
 use Rattle.lex.proofs.Every.{and-left, and-right, not-both, same-truth, every-false, every-cong, count-cong}
+use Rattle.lex.proofs.Lists.{list-at}
 use Rattle.lex.proofs.Scan.{Picked, scan-picked}
 use Rattle.week.specs.Rules.{Rules, bitOf, inDomain, tieWord}
 use Rattle.week.proofs.Rules.{Symmetric}
 use Rattle.repair.specs.Repair.{Case, isLost, mayGo, moves}
-use Rattle.parts.specs.Part.{placed, unplaced}
+use Rattle.parts.specs.Part.{placed, unplaced, Above}
 use Rattle.parts.proofs.Part.{count-place}
-use Rattle.parts.proofs.Slots.{Above, above-all, above-next, above-fails}
+use Rattle.parts.proofs.Slots.{above-all, above-next, above-fails}
 use Rattle.cuts.specs.Cut.{whole, RepairsOn}
-use Rattle.cuts.specs.Hopes.{suitsOn, isLeft, Forward, lives}
+use Rattle.cuts.specs.Hopes.{suitsOn, isLeft, Forward}
 use Rattle.cuts.specs.Moves.{mayLeave, calm, lands, sound, uses, may, hasTo, Settled}
 use Rattle.cuts.proofs.Cut.{KeepsOn}
 use Rattle.cuts.proofs.Hopes.{suits-free, suits-make, suits-at, alive-keeps}
 use Rattle.cuts.proofs.Moves.{may-needed, may-out}
 use Rattle.cuts.proofs.Settled.{settled-mended}
-use Rattle.cuts.proofs.Words.{forward-place, lives-word}
-use Rattle.finish.specs.Tests.{metWord, Made, starves, calmBy, soundBy, usesBy, hasToBy, mayBy}
+use Rattle.cuts.proofs.Words.{forward-place}
+use Rattle.finish.specs.Tests.{metWord, Made, calmBy, soundBy, usesBy, hasToBy, mayBy}
 use Rattle.finish.specs.Search.{Best, Moving, Tells}
 
 -- What the code finds of one lot, answer by answer
@@ -41,15 +44,6 @@ module _ (n : ℕ) (ties words : List ℕ) (x v p : ℕ) where
   pub met-other : (p ≡ x → ⊥) → bitAnd (getD words p 0) (tieWord n ties x v p) ≡ metWord n ties words x v p
   unfolding metWord
   met-other e = rw (ne-eqb p x e)
-
-module _ (s words : List ℕ) (q : ℕ) where
-  pub starves-placed : placed 16 s q ≡ true → false ≡ starves s words q
-  unfolding starves
-  starves-placed e = rw e
-
-  pub starves-word : (w : ℕ) → placed 16 s q ≡ false → w ≡ getD words q 0 → eqb w 0 ≡ starves s words q
-  unfolding starves
-  starves-word w e f = rw (e, f)
 
 cond-false : (t : Bool) → false ≡ cond t false false
 cond-false true = refl
@@ -135,17 +129,17 @@ pub made-forward : (R : Rules) (s words new : List ℕ) (x v : ℕ) → Symmetri
 unfolding metWord
 made-forward R s words new x v mirror i l h g f m = forward-place R s x v i l h g mirror words new f (m .each x l ∙ rw (eq-eqb x x refl)) (λ p k d. m .each p k ∙ rw (ne-eqb p x d))
 
-module _ (R : Rules) (s words : List ℕ) (f : Forward R s words) (narrow : (p : ℕ) → p < R .lots → getD words p 0 < 2 ^ 16) (q : ℕ) (l : q < R .lots) where
-  -- a lot that starves does not live, and any other that is not placed does
-  pub starved-dead : starves s words q ≡ true → lives R s q ≡ false
-  unfolding starves
-  starved-dead e =
-      lives-word R s words f q l (narrow q l) (ltb-false (getD s q 0) 16 (not-true (placed 16 s q) (and-left (unplaced 16 s q) (eqb (getD words q 0) 0) e)))
-      ∙ ap not (and-right (unplaced 16 s q) (eqb (getD words q 0) 0) e)
+-- one lot's word then
+pub met-left : (R : Rules) (s words : List ℕ) (x v : ℕ) → Symmetric R → x < length s → x < R .lots → 16 ≤ getD s x 0 → v < 16 → Forward R s words → (q : ℕ) → q < R .lots → (w : ℕ) → bitOf (metWord (R .lots) (R .ties) words x v q) w ≡ isLeft R (set s x v) q w
+unfolding metWord
+met-left R s words x v mirror i l h g f q k w =
+    ap (λ (y : ℕ). bitOf y w) (sym (at q k)) ∙ forward-place R s x v i l h g mirror words (listOf new (R .lots)) f (at x l ∙ rw (eq-eqb x x refl)) (λ p m d. at p m ∙ rw (ne-eqb p x d)) q k w
+  where
+    new : ℕ → ℕ
+    new = metWord (R .lots) (R .ties) words x v
 
-  pub fed-lives : starves s words q ≡ false → 16 ≤ getD s q 0 → lives R s q ≡ true
-  unfolding starves
-  fed-lives e h = lives-word R s words f q l (narrow q l) h ∙ ap not (rw (le-ltb (getD s q 0) 16 h) at e)
+    at : (p : ℕ) → p < R .lots → getD (listOf new (R .lots)) p 0 ≡ new p
+    at p m = list-at new (R .lots) p m
 
 -- Repairs
 
@@ -337,3 +331,7 @@ made-next f words p w h m e g = record {
 
 pub made-all : (f : ℕ → ℕ) (words : List ℕ) {p n : ℕ} → p ≡ n → Made p f words → Made n f words
 made-all f words e m = rw e at m
+
+-- A product of a number of slots and a weight is small
+pub product-small : {a b : ℕ} → a < 2 ^ 32 → b < 2 ^ 32 → a * b < 2 ^ 64
+product-small {a} {b} h g = let m = mul-le-mul {n₁ = a} {m₁ = b} {n₂ = 4294967295} {m₂ = 4294967295} (omega arith) (omega arith) in omega arith

@@ -1,17 +1,16 @@
 -- What the functions of the search ask and answer: which lots are to blame, whether the breaks of the placed lots have repairs, whether a super solution
 -- extends a partial order, and why none does. A part of an order s is a partial order that s extends. Assumes nothing.
 use mathlib.Core.Path.{_≡_}
-use mathlib.Core.Bool.{Bool, true, false, _&&_, _||_, cond}
+use mathlib.Core.Bool.{Bool, true, false, _&&_}
 use mathlib.Core.List.{List, []}
-use Prim.Native.Nat.{ℕ, _+_, _^_, _≤_, _<_}
-use lib.Dec.{eqb}
+use Prim.Native.Nat.{ℕ, _^_, _≤_, _<_}
 use lib.ListN.{length, getD, set, take}
 use Rattle.week.specs.declared.Numbers.{Numbers}
 use Rattle.week.specs.Rules.{Rules, bitOf, tieWord, together}
 use Rattle.week.specs.Tables.{Week, lots, pairRules, refusal}
 use Rattle.repair.specs.Break.{single, pair}
 use Rattle.repair.specs.Repair.{Case, replaces, helps}
-use Rattle.parts.specs.Part.{placed, Extends, Decides, Above}
+use Rattle.parts.specs.Part.{placed, Extends, Decides, Above, Merges}
 use Rattle.cuts.specs.Cut.{RepairsOn, mendedOn, safeOn}
 use Rattle.cuts.specs.Hopes.{isLeft, Forward, alive, Supers}
 use Rattle.cuts.specs.Reasons.{None, Struck}
@@ -31,14 +30,10 @@ pub record Part (k : ℕ) (s r : List ℕ) : Type 0 where
   pub size : length r ≡ 24
   pub part : Extends k 16 r s
 
--- where a merge of a and b without lot x places lot p
-unfoldable pub mergedAt : List ℕ → List ℕ → ℕ → ℕ → ℕ
-mergedAt a b x p = cond (placed 16 a p || eqb p x) (getD a p 0) (getD b p 0)
-
--- the k first lots of r are merged
-pub record Merged (a b : List ℕ) (x k : ℕ) (r : List ℕ) : Type 0 where
+-- r, in 24 places, has the lots that a places, and those but x that b does
+pub record Merged (a b : List ℕ) (x : ℕ) (r : List ℕ) : Type 0 where
   pub size : length r ≡ 24
-  pub each : (p : ℕ) → p < k → getD r p 0 ≡ mergedAt a b x p
+  pub merges : Merges 24 16 a b x r
 
 -- beside the lots that s places lot q has no slots but those of the word `target`
 pub record Bound (R : Rules) (s : List ℕ) (q target : ℕ) : Type 0 where

@@ -102,14 +102,7 @@ struct Choice {
 }
 
 // The better of a choice among the lots before q and of q itself: q, if it is not placed and has fewer slots left per weight.
-fn better(
-    n: u32,
-    order: &[u8],
-    words: &[u16],
-    weights: &[u16],
-    best: Choice,
-    q: Lot,
-) -> Choice
+fn better(n: u32, order: &[u8], words: &[u16], weights: &[u16], best: Choice, q: Lot) -> Choice
     requires { ⌜ (q .0 < n) × Best n (now order) (q .0) (best .lot) ⌝ }
     ensures { λ r. ⌜ Best n (now (order .entry)) (q .0 + 1) (r .lot) ⌝ }
 {
@@ -156,31 +149,26 @@ fn choose(n: u32, order: &[u8], words: &[u16], weights: &[u16]) -> Lot
 // The lots that a part a of an order places, and those but x of a part b.
 fn merged(a: [u8; 24], b: [u8; 24], x: Lot) -> [u8; 24]
     requires { ⌜ (length a ≡ 24) × (length b ≡ 24) ⌝ }
-    ensures { λ r. ⌜ Merged a b (x .0) 24 r ⌝ }
+    ensures { λ r. ⌜ Merged a b (x .0) r ⌝ }
 {
     let mut both = a;
     let mut p: u8 = 0;
     while p < 24 {
         let at = p as usize;
-        if 16 <= both[at] {
-            if p != x.0 {
-                both[at] = b[at];
-            }
-        }
         p += 1;
+        if both[at] < 16 {
+            continue;
+        }
+        if at == x.0 as usize {
+            continue;
+        }
+        both[at] = b[at];
     }
     both
 }
 
 // A part of an order beside which lot q has no slots but those of `target`, where it has none beside the whole: in turn each lot that takes another from q.
-fn blamed(
-    n: u32,
-    domain: &[u16],
-    ties: &[u16],
-    order: &[u8],
-    q: Lot,
-    target: u16,
-) -> [u8; 24]
+fn blamed(n: u32, domain: &[u16], ties: &[u16], order: &[u8], q: Lot, target: u16) -> [u8; 24]
     requires { ⌜ Bound (rules n (now domain) (now ties)) (now order) (q .0) target ⌝ }
     ensures { λ r. ⌜ Blamed (rules n (now (domain .entry)) (now (ties .entry))) (now (order .entry)) (q .0) target r ⌝ }
 {
@@ -415,16 +403,7 @@ fn has_repair(
     requires { ⌜ Struck (week numbers (now domain) (now loss) (now give) (now ties)) (now order) (lotsOf lost) ⌝ }
     ensures { λ r. ⌜ Judges (week numbers (now (domain .entry)) (now (loss .entry)) (now (give .entry)) (now (ties .entry))) (now (order .entry)) (lotsOf lost) (r .is) ⌝ }
 {
-    let is = mends(
-        numbers,
-        domain,
-        give,
-        ties,
-        order,
-        lost,
-        [16; 24],
-        domain,
-    );
+    let is = mends(numbers, domain, give, ties, order, lost, [16; 24], domain);
     Mended { is, met: 16777215 }
 }
 
@@ -445,7 +424,7 @@ fn free_word(numbers: Numbers, w: Slot) -> u16
     if numbers.helper == 1 {
         return 65534u16 << at;
     }
-    65535u16 ^ (1u16 << at)
+    65535u16 - (1u16 << at)
 }
 
 // Of each lot, the slots that are left to it beside the placed lots and to which it may go if it is lost.
@@ -465,16 +444,18 @@ fn free_words(numbers: Numbers, order: &[u8], words: &[u16]) -> [u16; 24]
 
 // Whether lot x has a slot of one word, and lot y one of another, that may stand together.
 fn has_pair(n: u32, ties: &[u16], x: Lot, first: u16, y: Lot, last: u16) -> bool
-    ensures { λ r. ⌜ r ≡ true → Paired n (now (ties .entry)) (x .0) first (y .0) last ⌝ }
+    ensures { λ r. ⌜ (r ≡ true → Paired n (now (ties .entry)) (x .0) first (y .0) last) ⌝ }
 {
     let mut v: u8 = 0;
     while v < 16 {
-        if week::bit(first, Slot(v)) {
-            if week::tie_word(n, ties, x, Slot(v), y) & last != 0 {
-                return true;
-            }
-        }
+        let here = Slot(v);
         v += 1;
+        if !week::bit(first, here) {
+            continue;
+        }
+        if week::tie_word(n, ties, x, here, y) & last != 0 {
+            return true;
+        }
     }
     false
 }
@@ -596,17 +577,7 @@ fn pairs_safe(
         if !at_risk(loss, order, p) {
             continue;
         }
-        let judged = partners_safe(
-            numbers,
-            domain,
-            loss,
-            give,
-            ties,
-            order,
-            words,
-            free,
-            p,
-        );
+        let judged = partners_safe(numbers, domain, loss, give, ties, order, words, free, p);
         if !judged.is {
             return judged;
         }
@@ -639,32 +610,14 @@ fn all_safe(
         };
     }
     let free = free_words(numbers, order, words);
-    let one = singles_safe(
-        numbers,
-        domain,
-        loss,
-        give,
-        ties,
-        order,
-        words,
-        &free,
-    );
+    let one = singles_safe(numbers, domain, loss, give, ties, order, words, &free);
     if !one.is {
         return one;
     }
     if numbers.a < 2 {
         return one;
     }
-    pairs_safe(
-        numbers,
-        domain,
-        loss,
-        give,
-        ties,
-        order,
-        words,
-        &free,
-    )
+    pairs_safe(numbers, domain, loss, give, ties, order, words, &free)
 }
 
 // The lots of an order that are lost or in a set of bits.
@@ -677,14 +630,17 @@ fn narrowed(order: [u8; 24], lots: u32, lost: Lost) -> [u8; 24]
     let mut p: u8 = 0;
     while p < 24 {
         let at = p as usize;
-        if left % 2 == 1 {
-            part[at] = order[at];
-        }
-        if repair::is_lost(lost, Lot(p)) {
-            part[at] = order[at];
-        }
+        let bit = left % 2;
         left = left / 2;
         p += 1;
+        if bit == 1 {
+            part[at] = order[at];
+            continue;
+        }
+        if !repair::is_lost(lost, Lot(at as u8)) {
+            continue;
+        }
+        part[at] = order[at];
     }
     part
 }
@@ -752,19 +708,23 @@ fn pick_slot(
         }
         let mut q: u8 = 0;
         while (q as u32) < numbers.n {
-            let word = met_word(numbers.n, ties, words, x, Slot(here), Lot(q));
+            let lot = Lot(q);
+            let word = met_word(numbers.n, ties, words, x, Slot(here), lot);
             met[q as usize] = word;
-            if word == 0 {
-                if !is_placed(&order, Lot(q)) {
-                    let mut with = order;
-                    with[x.0 as usize] = here;
-                    let starved = blamed(numbers.n, domain, ties, &with, Lot(q), 0);
-                    why = merged(why, starved, x);
-                    heavier(weights, Lot(q));
-                    continue 'slots;
-                }
-            }
             q += 1;
+            if word != 0 {
+                continue;
+            }
+            if is_placed(&order, lot) {
+                continue;
+            }
+            let mut with = order;
+            with[x.0 as usize] = here;
+            let starved = blamed(numbers.n, domain, ties, &with, lot, 0);
+            let more = merged(why, starved, x);
+            why = more;
+            heavier(weights, lot);
+            continue 'slots;
         }
         break here;
     };
@@ -801,22 +761,16 @@ fn finish(
     let judged = all_safe(numbers, domain, loss, give, ties, &order, words);
     if !judged.is {
         heavier_lost(weights, judged.lost);
+        let part = why_unsafe(numbers, domain, loss, give, ties, order, judged);
         return Tried {
             is: false,
-            order: why_unsafe(numbers, domain, loss, give, ties, order, judged),
+            order: part,
         };
     }
     if numbers.n <= x.0 as u32 {
         return Tried { is: true, order };
     }
-    let mut why = blamed(
-        numbers.n,
-        domain,
-        ties,
-        &order,
-        x,
-        week::word_of(words, x),
-    );
+    let mut why = blamed(numbers.n, domain, ties, &order, x, week::word_of(words, x));
     let mut from: u8 = 0;
     loop {
         let picked = pick_slot(
@@ -833,10 +787,11 @@ fn finish(
             why,
         );
         let v = picked.slot;
+        let failed = picked.why;
         if most <= v {
             return Tried {
                 is: false,
-                order: picked.why,
+                order: failed,
             };
         }
         let met = picked.words;
@@ -862,7 +817,8 @@ fn finish(
         if 16 <= reason[x.0 as usize] {
             return tried;
         }
-        why = merged(picked.why, reason, x);
+        let more = merged(failed, reason, x);
+        why = more;
         from = v + 1;
     }
 }
@@ -897,9 +853,8 @@ fn least(
         most,
     );
     if tried.is {
-        return Order {
-            slots: tried.order,
-        };
+        let found = tried.order;
+        return Order { slots: found };
     }
     Order { slots: known }
 }
@@ -937,9 +892,8 @@ pub fn find_super(
             order: Order { slots: [0; 24] },
         };
     }
-    let mut known = Order {
-        slots: tried.order,
-    };
+    let found = tried.order;
+    let mut known = Order { slots: found };
     let mut slots = [0u8; 24];
     let mut d: u8 = 0;
     while (d as u32) < numbers.n {

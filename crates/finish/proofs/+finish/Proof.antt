@@ -1,282 +1,201 @@
--- `finish::finish` meets its contract: the slots of the lot that is next are tried one after the other; fewer lots are left to place at each call.
--- Assumes nothing.
-use mathlib.Core.Path.{_≡_, refl, sym}
-use mathlib.Core.List.{[]}
+-- `finish::finish` meets its contract: the slots of the lot that is next are tried one after the other, each failure with its reason; fewer lots are left to
+-- place at each call. Assumes nothing.
+use mathlib.Core.Path.{_≡_, refl, sym, _∙_}
+use Prim.Native.Nat.{ℕ, _-_, _≤_, _<_}
 use native.Mathlib.Omega.{arith}
-use lib.ListN.{length-set}
+use lib.ListN.{length, length-set}
 use borrow.Author.Needs.{needs}
+use borrow.Author.Tests.{not-true, not-false}
 use Rattle.lex.specs.Every.{count}
 use Rattle.week.specs.Tables.{week}
 use Rattle.parts.specs.Part.{unplaced}
-use Rattle.parts.proofs.Slots.{Above, above-start}
-use Rattle.cuts.specs.Hopes.{Supers}
-use Rattle.finish.proofs.Search.{week-few, picked-later, answer-none, answer-full, next-lot, next-less, answer-next, from-next}
-use Prim.Native.Nat.{ℕ, _-_, _≤_, _<_}
+use Rattle.finish.specs.Search.{Held}
+use Rattle.finish.proofs.Search.{week-few, bound-own, held-start, low-slot, answer-none, next-less, answer-next, answer-jump, held-next, answer-why, answer-full, next-lot}
 use borrow.Fn.Kinds.{In}
 use borrow.Fn.PlainCycle.{Measures, is, falls, and}
 use Rattle.finish.proofs.finish.Reads as finish
 use Rattle.finish.proofs.finish.Kinds as finish-kinds
 use Rattle.finish.proofs.+finish.Lts-finish as finish-lts
+use Rattle.finish.proofs.all_safe.Reads as all-safe-reads
+use Rattle.finish.proofs.blamed.Reads as blamed-reads
 use Rattle.finish.proofs.choose.Reads as choose-reads
-use Rattle.finish.proofs.met_words.Reads as met-words-reads
+use Rattle.finish.proofs.heavier_lost.Reads as heavier-lost-reads
+use Rattle.finish.proofs.merged.Reads as merged-reads
 use Rattle.finish.proofs.pick_slot.Reads as pick-slot-reads
+use Rattle.finish.proofs.why_unsafe.Reads as why-unsafe-reads
+use Rattle.week.proofs.word_of.Reads as word-of-reads
 use Rattle.finish.proofs.+finish.{statement}
 use Rattle.finish.proofs.+finish.Tie.{close}
 
-abbrev μ-finish : Measures 5 finish-kinds.ps ℕ
+abbrev μ-finish : Measures 6 finish-kinds.ps ℕ
 μ-finish κs a = count (unplaced 16 (a .1 .1 .1 .1 .1 .0)) (a .0 .n)
 
-abbrev finish-at : ℕ → In 5 finish-kinds.ps
-finish-at t = and 5 finish-kinds.ps (is 5 finish-kinds.ps μ-finish t) finish.Pre
+abbrev finish-at : ℕ → In 6 finish-kinds.ps
+finish-at t = and 6 finish-kinds.ps (is 6 finish-kinds.ps μ-finish t) finish.Pre
 
-abbrev finish-below : ℕ → In 5 finish-kinds.ps
-finish-below t = and 5 finish-kinds.ps (falls 5 finish-kinds.ps _<_ μ-finish t) finish.Pre
+abbrev finish-below : ℕ → In 6 finish-kinds.ps
+finish-below t = and 6 finish-kinds.ps (falls 6 finish-kinds.ps _<_ μ-finish t) finish.Pre
+
+-- what the calls ask and tell
+abbrev callees : ℕ → finish-lts.Claims
+callees t = (
+  all-safe-reads.Asked,
+  all-safe-reads.Learnt,
+  heavier-lost-reads.Asked,
+  heavier-lost-reads.Learnt,
+  why-unsafe-reads.Asked,
+  why-unsafe-reads.Learnt,
+  word-of-reads.Asked,
+  word-of-reads.Learnt,
+  blamed-reads.Asked,
+  blamed-reads.Learnt,
+  pick-slot-reads.Asked,
+  pick-slot-reads.Learnt,
+  choose-reads.Asked,
+  choose-reads.Learnt,
+  finish-below t,
+  finish.Post,
+  merged-reads.Asked,
+  merged-reads.Learnt,
+)
 
 abbrev finish-Inv-loop : finish-lts.InvT-loop
-finish-Inv-loop numbers domain loss give ties order words x most from₀ from = (from ≤ 16) × Above (Supers (week numbers domain loss give ties)) (numbers .n) 16 order (x .0) from
+finish-Inv-loop numbers domain loss give ties words weights₀ x most order why₀ from₀ weights why from = (length weights ≡ length weights₀) × (from ≤ 16) × Held (week numbers domain loss give ties) order words (x .0) from why
 
 abbrev finish-μ-loop : finish-lts.MeasureT-loop
-finish-μ-loop numbers domain loss give ties order words x most from₀ from = 16 - from
+finish-μ-loop numbers domain loss give ties words weights₀ x most order why₀ from₀ weights why from = 16 - from
 
-finish-loop-holds : (t : ℕ) → finish-lts.Need-loop-holds (
-  pick-slot-reads.Asked,
-  pick-slot-reads.Learnt,
-  met-words-reads.Asked,
-  met-words-reads.Learnt,
-  choose-reads.Asked,
-  choose-reads.Learnt,
-  finish-below t,
-  finish.Post,
-) (finish-at t) finish.Post finish-Inv-loop finish-μ-loop
-finish-loop-holds t c =
-    let s = c .before .before .before .before .before .args in
-    (omega arith, above-start (Supers (week (s .numbers) (s .domain .now) (s .loss .now) (s .give .now) (s .ties .now))) (s .numbers .n) 16 (s .order) (s .x .0))
+finish-slice-aggregate-all-safe : (t : ℕ) → finish-lts.Need-slice-aggregate-all-safe (callees t) (finish-at t) finish.Post finish-Inv-loop finish-μ-loop
+finish-slice-aggregate-all-safe t c = sym (c .before .before .before .before .before .before .before .pre .1 .0 .size)
 
-finish-pick-slot-requires : (t : ℕ) → finish-lts.Need-pick-slot-requires (
-  pick-slot-reads.Asked,
-  pick-slot-reads.Learnt,
-  met-words-reads.Asked,
-  met-words-reads.Learnt,
-  choose-reads.Asked,
-  choose-reads.Learnt,
-  finish-below t,
-  finish.Post,
-) (finish-at t) finish.Post finish-Inv-loop finish-μ-loop
-finish-pick-slot-requires t c κs = c .before .before .before .before .before .before .pre .1 .0
+finish-all-safe-requires : (t : ℕ) → finish-lts.Need-all-safe-requires (callees t) (finish-at t) finish.Post finish-Inv-loop finish-μ-loop
+finish-all-safe-requires t c κs = (c .before .before .before .before .before .before .before .pre .1 .0)
 
-finish-returns : (t : ℕ) → finish-lts.Need-returns (
-  pick-slot-reads.Asked,
-  pick-slot-reads.Learnt,
-  met-words-reads.Asked,
-  met-words-reads.Learnt,
-  choose-reads.Asked,
-  choose-reads.Learnt,
-  finish-below t,
-  finish.Post,
-) (finish-at t) finish.Post finish-Inv-loop finish-μ-loop
-finish-returns t c = record { size = refl; answer = answer-none (c .before .before .before .before .before .before .before .before .pre .1 .0) (c .before .before .loop .from) (c .before .pick-slot .result .0) (c .before .before .loop .inv .0) (c .before .pick-slot .ensures) (c .before .before .loop .inv .1) (c .before .before .before .before .before .before .before .before .args .most) [] (c .if1 .taken) }
+finish-heavier-lost-requires : (t : ℕ) → finish-lts.Need-heavier-lost-requires (callees t) (finish-at t) finish.Post finish-Inv-loop finish-μ-loop
+finish-heavier-lost-requires t c κs = search needs
 
-finish-met-words-requires : (t : ℕ) → finish-lts.Need-met-words-requires (
-  pick-slot-reads.Asked,
-  pick-slot-reads.Learnt,
-  met-words-reads.Asked,
-  met-words-reads.Learnt,
-  choose-reads.Asked,
-  choose-reads.Learnt,
-  finish-below t,
-  finish.Post,
-) (finish-at t) finish.Post finish-Inv-loop finish-μ-loop
-finish-met-words-requires t c κs = week-few (c .before .before .before .before .before .before .before .before .pre .1 .0)
+finish-why-unsafe-requires : (t : ℕ) → finish-lts.Need-why-unsafe-requires (callees t) (finish-at t) finish.Post finish-Inv-loop finish-μ-loop
+finish-why-unsafe-requires t c κs = ((c .before .before .before .before .before .before .before .before .before .before .before .before .before .before .pre .1 .0 .size), rw (not-true (c .before .before .before .before .before .before .all-safe .result .is) (c .before .before .before .before .if1 .taken)) at (c .before .before .before .before .before .before .all-safe .ensures))
 
-finish-cast-with : (t : ℕ) → finish-lts.Need-cast-with (
-  pick-slot-reads.Asked,
-  pick-slot-reads.Learnt,
-  met-words-reads.Asked,
-  met-words-reads.Learnt,
-  choose-reads.Asked,
-  choose-reads.Learnt,
-  finish-below t,
-  finish.Post,
-) (finish-at t) finish.Post finish-Inv-loop finish-μ-loop
-finish-cast-with t c = search needs
+finish-same-length : (t : ℕ) → finish-lts.Need-same-length (callees t) (finish-at t) finish.Post finish-Inv-loop finish-μ-loop
+finish-same-length t c = (c .before .before .weights .given)
 
-finish-array-write-with : (t : ℕ) → finish-lts.Need-array-write-with (
-  pick-slot-reads.Asked,
-  pick-slot-reads.Learnt,
-  met-words-reads.Asked,
-  met-words-reads.Learnt,
-  choose-reads.Asked,
-  choose-reads.Learnt,
-  finish-below t,
-  finish.Post,
-) (finish-at t) finish.Post finish-Inv-loop finish-μ-loop
-finish-array-write-with t c = omega (arith, week-few (c .before .before .before .before .before .before .before .before .before .before .pre .1 .0), c .before .before .before .before .before .before .before .before .before .before .pre .1 .0 .lot)
+finish-returns : (t : ℕ) → finish-lts.Need-returns (callees t) (finish-at t) finish.Post finish-Inv-loop finish-μ-loop
+finish-returns t c = record { size = (c .why-unsafe .ensures .0); answer = answer-why _ _ _ (c .why-unsafe .ensures .1) }
 
-finish-slice-aggregate-choose : (t : ℕ) → finish-lts.Need-slice-aggregate-choose (
-  pick-slot-reads.Asked,
-  pick-slot-reads.Learnt,
-  met-words-reads.Asked,
-  met-words-reads.Learnt,
-  choose-reads.Asked,
-  choose-reads.Learnt,
-  finish-below t,
-  finish.Post,
-) (finish-at t) finish.Post finish-Inv-loop finish-μ-loop
-finish-slice-aggregate-choose t c = simp length-set (sym (c .before .before .before .before .before .before .before .before .before .before .before .pre .1 .0 .going .size))
-
-finish-slice-aggregate-choose-2 : (t : ℕ) → finish-lts.Need-slice-aggregate-choose-2 (
-  pick-slot-reads.Asked,
-  pick-slot-reads.Learnt,
-  met-words-reads.Asked,
-  met-words-reads.Learnt,
-  choose-reads.Asked,
-  choose-reads.Learnt,
-  finish-below t,
-  finish.Post,
-) (finish-at t) finish.Post finish-Inv-loop finish-μ-loop
-finish-slice-aggregate-choose-2 t c = sym (c .before .before .before .met-words .ensures .size)
-
-finish-choose-requires : (t : ℕ) → finish-lts.Need-choose-requires (
-  pick-slot-reads.Asked,
-  pick-slot-reads.Learnt,
-  met-words-reads.Asked,
-  met-words-reads.Learnt,
-  choose-reads.Asked,
-  choose-reads.Learnt,
-  finish-below t,
-  finish.Post,
-) (finish-at t) finish.Post finish-Inv-loop finish-μ-loop
-finish-choose-requires t c κs = week-few (c .before .before .before .before .before .before .before .before .before .before .before .before .pre .1 .0)
-
-finish-cast-if2 : (t : ℕ) → finish-lts.Need-cast-if2 (
-  pick-slot-reads.Asked,
-  pick-slot-reads.Learnt,
-  met-words-reads.Asked,
-  met-words-reads.Learnt,
-  choose-reads.Asked,
-  choose-reads.Learnt,
-  finish-below t,
-  finish.Post,
-) (finish-at t) finish.Post finish-Inv-loop finish-μ-loop
+finish-cast-if2 : (t : ℕ) → finish-lts.Need-cast-if2 (callees t) (finish-at t) finish.Post finish-Inv-loop finish-μ-loop
 finish-cast-if2 t c = search needs
 
-finish-returns-2 : (t : ℕ) → finish-lts.Need-returns-2 (
-  pick-slot-reads.Asked,
-  pick-slot-reads.Learnt,
-  met-words-reads.Asked,
-  met-words-reads.Learnt,
-  choose-reads.Asked,
-  choose-reads.Learnt,
-  finish-below t,
-  finish.Post,
-) (finish-at t) finish.Post finish-Inv-loop finish-μ-loop
-finish-returns-2 t c = record { size = simp length-set (c .before .before .before .before .before .before .before .before .before .before .before .before .before .before .before .before .pre .1 .0 .going .size); answer = answer-full (c .before .before .before .before .before .before .before .before .before .before .before .before .before .before .before .before .pre .1 .0) (c .before .before .before .before .before .before .before .before .before .before .loop .from) (c .before .before .before .before .before .before .before .before .before .pick-slot .result .0) (c .before .before .before .before .before .before .before .before .before .before .loop .inv .0) (c .before .before .before .before .before .before .before .before .before .pick-slot .ensures) (c .before .before .before .before .before .before .before .before .before .before .loop .inv .1) (let m = c .before .before .before .before .before .before .before .before .before .before .before .before .before .before .before .before .pre .1 .1 in omega arith) (c .before .before .before .choose .result .0) (c .before .before .before .before .before .before .before .before .before .before .before .before .before .before .before .before .args .most) (c .before .before .before .choose .ensures) (c .if2 .taken) }
+finish-returns-2 : (t : ℕ) → finish-lts.Need-returns-2 (callees t) (finish-at t) finish.Post finish-Inv-loop finish-μ-loop
+finish-returns-2 t c = record { size = (c .before .before .before .before .before .before .before .before .before .before .before .before .before .pre .1 .0 .size); answer = answer-full (c .before .before .before .before .before .before .before .before .before .before .before .before .before .pre .1 .0) (c .before .before .before .before .before .before .before .before .before .before .before .before .before .pre .1 .1 .0) (c .before .before .before .before .before .before .before .before .before .before .before .before .before .args .most) (rw (not-false (c .before .before .before .before .before .all-safe .result .is) (c .before .before .before .if1 .left)) at (c .before .before .before .before .before .all-safe .ensures)) (c .if2 .taken) }
 
-finish-slice-aggregate-finish : (t : ℕ) → finish-lts.Need-slice-aggregate-finish (
-  pick-slot-reads.Asked,
-  pick-slot-reads.Learnt,
-  met-words-reads.Asked,
-  met-words-reads.Learnt,
-  choose-reads.Asked,
-  choose-reads.Learnt,
-  finish-below t,
-  finish.Post,
-) (finish-at t) finish.Post finish-Inv-loop finish-μ-loop
-finish-slice-aggregate-finish t c = sym (c .before .before .before .before .before .before .before .before .met-words .ensures .size)
+finish-slice-aggregate-blamed : (t : ℕ) → finish-lts.Need-slice-aggregate-blamed (callees t) (finish-at t) finish.Post finish-Inv-loop finish-μ-loop
+finish-slice-aggregate-blamed t c = sym (c .before .before .before .before .before .before .before .before .before .before .before .before .before .before .pre .1 .0 .size)
 
-finish-finish-requires : (t : ℕ) → finish-lts.Need-finish-requires (
-  pick-slot-reads.Asked,
-  pick-slot-reads.Learnt,
-  met-words-reads.Asked,
-  met-words-reads.Learnt,
-  choose-reads.Asked,
-  choose-reads.Learnt,
-  finish-below t,
-  finish.Post,
-) (finish-at t) finish.Post finish-Inv-loop finish-μ-loop
-finish-finish-requires t c κs =
-    let s = c .before .before .before .before .before .before .before .before .before .before .before .before .before .before .before .before .before in
-    let fell : count (unplaced 16 (s .args .order)) (s .args .numbers .n) ≡ t = s .pre .0 in
-    let less = next-less (c .before .before .before .before .before .before .before .before .before .before .before .before .before .before .before .before .before .pre .1 .0) (c .before .before .before .before .before .before .before .before .before .before .before .loop .from) (c .before .before .before .before .before .before .before .before .before .before .pick-slot .result .0) (c .before .before .before .before .before .before .before .before .before .before .before .loop .inv .0) (c .before .before .before .before .before .before .before .before .before .before .pick-slot .ensures) (c .before .before .before .before .before .before .before .before .before .before .before .loop .inv .1) (let m = c .before .before .before .before .before .before .before .before .before .before .before .before .before .before .before .before .before .pre .1 .1 in omega arith) (c .before .before .before .before .choose .result .0) _ (c .before .before .before .before .before .before .before .before .met-words .ensures) (c .before .before .before .before .choose .ensures) (c .before .if2 .left) in
-    (omega arith, (next-lot (c .before .before .before .before .before .before .before .before .before .before .before .before .before .before .before .before .before .pre .1 .0) (c .before .before .before .before .before .before .before .before .before .before .before .loop .from) (c .before .before .before .before .before .before .before .before .before .before .pick-slot .result .0) (c .before .before .before .before .before .before .before .before .before .before .before .loop .inv .0) (c .before .before .before .before .before .before .before .before .before .before .pick-slot .ensures) (c .before .before .before .before .before .before .before .before .before .before .before .loop .inv .1) (let m = c .before .before .before .before .before .before .before .before .before .before .before .before .before .before .before .before .before .pre .1 .1 in omega arith) (c .before .before .before .before .choose .result .0) _ (c .before .before .before .before .before .before .before .before .met-words .ensures) (c .before .before .before .before .choose .ensures) (c .before .if2 .left), omega arith))
+finish-word-of-requires : (t : ℕ) → finish-lts.Need-word-of-requires (callees t) (finish-at t) finish.Post finish-Inv-loop finish-μ-loop
+finish-word-of-requires t c κs = search needs
 
-finish-returns-3 : (t : ℕ) → finish-lts.Need-returns-3 (
-  pick-slot-reads.Asked,
-  pick-slot-reads.Learnt,
-  met-words-reads.Asked,
-  met-words-reads.Learnt,
-  choose-reads.Asked,
-  choose-reads.Learnt,
-  finish-below t,
-  finish.Post,
-) (finish-at t) finish.Post finish-Inv-loop finish-μ-loop
-finish-returns-3 t c = record { size = c .before .finish .ensures .size; answer = rw (c .if3 .taken) (answer-next (c .before .before .before .before .before .before .before .before .before .before .before .before .before .before .before .before .before .before .before .pre .1 .0) (c .before .before .before .before .before .before .before .before .before .before .before .before .before .loop .from) (c .before .before .before .before .before .before .before .before .before .before .before .before .pick-slot .result .0) (c .before .before .before .before .before .before .before .before .before .before .before .before .before .loop .inv .0) (c .before .before .before .before .before .before .before .before .before .before .before .before .pick-slot .ensures) (c .before .before .before .before .before .before .before .before .before .before .before .before .before .loop .inv .1) (let m = c .before .before .before .before .before .before .before .before .before .before .before .before .before .before .before .before .before .before .before .pre .1 .1 in omega arith) (c .before .before .before .before .before .before .choose .result .0) _ (c .before .before .before .before .before .before .before .before .before .before .met-words .ensures) (c .before .before .before .before .before .before .choose .ensures) (c .before .before .before .if2 .left) (c .before .finish .result .order .slots) (c .before .before .before .before .before .before .before .before .before .before .before .before .before .before .before .before .before .before .before .args .most) (rw (c .if3 .taken) at (c .before .finish .ensures .answer))) }
+finish-blamed-requires : (t : ℕ) → finish-lts.Need-blamed-requires (callees t) (finish-at t) finish.Post finish-Inv-loop finish-μ-loop
+finish-blamed-requires t c κs = bound-own (next-lot (c .before .before .before .before .before .before .before .before .before .before .before .before .before .before .before .pre .1 .0) (c .before .before .before .before .before .before .before .before .before .before .before .before .before .before .before .pre .1 .1 .0) (c .before .before .if2 .left)) _ (c .word-of .ensures)
 
-finish-add-from : (t : ℕ) → finish-lts.Need-add-from (
-  pick-slot-reads.Asked,
-  pick-slot-reads.Learnt,
-  met-words-reads.Asked,
-  met-words-reads.Learnt,
-  choose-reads.Asked,
-  choose-reads.Learnt,
-  finish-below t,
-  finish.Post,
-) (finish-at t) finish.Post finish-Inv-loop finish-μ-loop
-finish-add-from t c = omega (arith, c .before .before .before .before .before .before .before .before .before .before .before .before .before .before .before .before .before .before .before .pre .1 .1)
+finish-loop-holds : (t : ℕ) → finish-lts.Need-loop-holds (callees t) (finish-at t) finish.Post finish-Inv-loop finish-μ-loop
+finish-loop-holds t c = (refl, omega arith, held-start (next-lot (c .before .before .before .before .before .before .before .before .before .before .before .before .before .before .before .before .pre .1 .0) (c .before .before .before .before .before .before .before .before .before .before .before .before .before .before .before .before .pre .1 .1 .0) (c .before .before .before .if2 .left)) _ _ (c .before .word-of .ensures) (c .blamed .ensures))
 
-finish-loop-less : (t : ℕ) → finish-lts.Need-loop-less (
-  pick-slot-reads.Asked,
-  pick-slot-reads.Learnt,
-  met-words-reads.Asked,
-  met-words-reads.Learnt,
-  choose-reads.Asked,
-  choose-reads.Learnt,
-  finish-below t,
-  finish.Post,
-) (finish-at t) finish.Post finish-Inv-loop finish-μ-loop
-finish-loop-less t c = let m = c .before .before .before .before .before .before .before .before .before .before .before .before .before .before .before .before .before .before .before .pre .1 .1 in let l = picked-later (c .before .before .before .before .before .before .before .before .before .before .before .before .before .before .before .before .before .before .before .pre .1 .0) (c .before .before .before .before .before .before .before .before .before .before .before .before .before .loop .from) (c .before .before .before .before .before .before .before .before .before .before .before .before .pick-slot .result .0) (c .before .before .before .before .before .before .before .before .before .before .before .before .before .loop .inv .0) (c .before .before .before .before .before .before .before .before .before .before .before .before .pick-slot .ensures) (c .before .before .before .before .before .before .before .before .before .before .before .before .before .loop .inv .1) (omega arith) in omega arith
+finish-pick-slot-requires : (t : ℕ) → finish-lts.Need-pick-slot-requires (callees t) (finish-at t) finish.Post finish-Inv-loop finish-μ-loop
+finish-pick-slot-requires t c κs = ((next-lot (c .before .before .before .before .before .before .before .before .before .before .before .before .before .before .before .before .before .before .pre .1 .0) (c .before .before .before .before .before .before .before .before .before .before .before .before .before .before .before .before .before .before .pre .1 .1 .0) (c .before .before .before .before .before .if2 .left)), (c .before .loop .inv .2))
 
-finish-loop-again : (t : ℕ) → finish-lts.Need-loop-again (
-  pick-slot-reads.Asked,
-  pick-slot-reads.Learnt,
-  met-words-reads.Asked,
-  met-words-reads.Learnt,
-  choose-reads.Asked,
-  choose-reads.Learnt,
-  finish-below t,
-  finish.Post,
-) (finish-at t) finish.Post finish-Inv-loop finish-μ-loop
-finish-loop-again t c = ((let m = c .before .before .before .before .before .before .before .before .before .before .before .before .before .before .before .before .before .before .before .pre .1 .1 in omega arith), from-next (c .before .before .before .before .before .before .before .before .before .before .before .before .before .before .before .before .before .before .before .pre .1 .0) (c .before .before .before .before .before .before .before .before .before .before .before .before .before .loop .from) (c .before .before .before .before .before .before .before .before .before .before .before .before .pick-slot .result .0) (c .before .before .before .before .before .before .before .before .before .before .before .before .before .loop .inv .0) (c .before .before .before .before .before .before .before .before .before .before .before .before .pick-slot .ensures) (c .before .before .before .before .before .before .before .before .before .before .before .before .before .loop .inv .1) (let m = c .before .before .before .before .before .before .before .before .before .before .before .before .before .before .before .before .before .before .before .pre .1 .1 in omega arith) (c .before .before .before .before .before .before .choose .result .0) _ (c .before .before .before .before .before .before .before .before .before .before .met-words .ensures) (c .before .before .before .before .before .before .choose .ensures) (c .before .before .before .if2 .left) [] (rw (c .if3 .left) at (c .before .finish .ensures .answer)))
+finish-same-length-2 : (t : ℕ) → finish-lts.Need-same-length-2 (callees t) (finish-at t) finish.Post finish-Inv-loop finish-μ-loop
+finish-same-length-2 t c = (c .before .before .before .weights2 .given) ∙ (c .before .before .before .before .before .before .loop .inv .0)
+
+finish-returns-3 : (t : ℕ) → finish-lts.Need-returns-3 (callees t) (finish-at t) finish.Post finish-Inv-loop finish-μ-loop
+finish-returns-3 t c = record { size = (c .before .before .before .before .pick-slot .ensures .held .size); answer = answer-none (next-lot (c .before .before .before .before .before .before .before .before .before .before .before .before .before .before .before .before .before .before .before .before .before .before .before .pre .1 .0) (c .before .before .before .before .before .before .before .before .before .before .before .before .before .before .before .before .before .before .before .before .before .before .before .pre .1 .1 .0) (c .before .before .before .before .before .before .before .before .before .before .if2 .left)) (c .before .before .before .before .pick-slot .ensures) (c .before .before .before .before .before .before .before .before .before .before .before .before .before .before .before .before .before .before .before .before .before .before .before .args .most) (c .if3 .taken) }
+
+finish-cast-with : (t : ℕ) → finish-lts.Need-cast-with (callees t) (finish-at t) finish.Post finish-Inv-loop finish-μ-loop
+finish-cast-with t c = search needs
+
+finish-array-write-with : (t : ℕ) → finish-lts.Need-array-write-with (callees t) (finish-at t) finish.Post finish-Inv-loop finish-μ-loop
+finish-array-write-with t c = omega (arith, week-few (next-lot (c .before .before .before .before .before .before .before .before .before .before .before .before .before .before .before .before .before .before .before .before .before .before .before .before .before .pre .1 .0) (c .before .before .before .before .before .before .before .before .before .before .before .before .before .before .before .before .before .before .before .before .before .before .before .before .before .pre .1 .1 .0) (c .before .before .before .before .before .before .before .before .before .before .before .before .if2 .left)), (c .before .before .before .before .before .before .before .before .before .before .before .before .if2 .left))
+
+finish-slice-aggregate-choose : (t : ℕ) → finish-lts.Need-slice-aggregate-choose (callees t) (finish-at t) finish.Post finish-Inv-loop finish-μ-loop
+finish-slice-aggregate-choose t c = simp length-set (sym (c .before .before .before .before .before .before .before .before .before .before .before .before .before .before .before .before .before .before .before .before .before .before .before .before .before .before .pre .1 .0 .size))
+
+finish-slice-aggregate-choose-2 : (t : ℕ) → finish-lts.Need-slice-aggregate-choose-2 (callees t) (finish-at t) finish.Post finish-Inv-loop finish-μ-loop
+finish-slice-aggregate-choose-2 t c = sym ((c .before .before .before .before .before .before .before .before .pick-slot .ensures .wide) (low-slot (c .before .before .before .before .if3 .left) (c .before .before .before .before .before .before .before .before .before .before .before .before .before .before .before .before .before .before .before .before .before .before .before .before .before .before .before .pre .1 .1 .1)))
+
+finish-choose-requires : (t : ℕ) → finish-lts.Need-choose-requires (callees t) (finish-at t) finish.Post finish-Inv-loop finish-μ-loop
+finish-choose-requires t c κs = week-few (next-lot (c .before .before .before .before .before .before .before .before .before .before .before .before .before .before .before .before .before .before .before .before .before .before .before .before .before .before .before .before .pre .1 .0) (c .before .before .before .before .before .before .before .before .before .before .before .before .before .before .before .before .before .before .before .before .before .before .before .before .before .before .before .before .pre .1 .1 .0) (c .before .before .before .before .before .before .before .before .before .before .before .before .before .before .before .if2 .left))
+
+finish-slice-aggregate-finish : (t : ℕ) → finish-lts.Need-slice-aggregate-finish (callees t) (finish-at t) finish.Post finish-Inv-loop finish-μ-loop
+finish-slice-aggregate-finish t c = sym ((c .before .before .before .before .before .before .before .before .before .before .before .pick-slot .ensures .wide) (low-slot (c .before .before .before .before .before .before .before .if3 .left) (c .before .before .before .before .before .before .before .before .before .before .before .before .before .before .before .before .before .before .before .before .before .before .before .before .before .before .before .before .before .before .pre .1 .1 .1)))
+
+finish-finish-requires : (t : ℕ) → finish-lts.Need-finish-requires (callees t) (finish-at t) finish.Post finish-Inv-loop finish-μ-loop
+finish-finish-requires t c κs = let fell : count (unplaced 16 (c .before .before .before .before .before .before .before .before .before .before .before .before .before .before .before .before .before .before .before .before .before .before .before .before .before .before .before .before .before .before .before .args .t6)) (c .before .before .before .before .before .before .before .before .before .before .before .before .before .before .before .before .before .before .before .before .before .before .before .before .before .before .before .before .before .before .before .args .numbers .n) ≡ t = (c .before .before .before .before .before .before .before .before .before .before .before .before .before .before .before .before .before .before .before .before .before .before .before .before .before .before .before .before .before .before .before .pre .0) in let less = next-less (next-lot (c .before .before .before .before .before .before .before .before .before .before .before .before .before .before .before .before .before .before .before .before .before .before .before .before .before .before .before .before .before .before .before .pre .1 .0) (c .before .before .before .before .before .before .before .before .before .before .before .before .before .before .before .before .before .before .before .before .before .before .before .before .before .before .before .before .before .before .before .pre .1 .1 .0) (c .before .before .before .before .before .before .before .before .before .before .before .before .before .before .before .before .before .before .if2 .left)) (c .before .before .before .before .before .before .before .before .before .before .before .before .pick-slot .ensures) (low-slot (c .before .before .before .before .before .before .before .before .if3 .left) (c .before .before .before .before .before .before .before .before .before .before .before .before .before .before .before .before .before .before .before .before .before .before .before .before .before .before .before .before .before .before .before .pre .1 .1 .1)) in (omega arith, ((c .before .before .before .before .before .before .before .before .before .before .before .before .pick-slot .ensures .next) (low-slot (c .before .before .before .before .before .before .before .before .if3 .left) (c .before .before .before .before .before .before .before .before .before .before .before .before .before .before .before .before .before .before .before .before .before .before .before .before .before .before .before .before .before .before .before .pre .1 .1 .1)), ((c .before .before .choose .ensures), omega arith)))
+
+finish-same-length-3 : (t : ℕ) → finish-lts.Need-same-length-3 (callees t) (finish-at t) finish.Post finish-Inv-loop finish-μ-loop
+finish-same-length-3 t c = (c .before .before .weights3 .given) ∙ (c .before .before .before .before .before .before .before .before .before .before .before .before .before .before .before .weights2 .given) ∙ (c .before .before .before .before .before .before .before .before .before .before .before .before .before .before .before .before .before .before .loop .inv .0)
+
+finish-returns-4 : (t : ℕ) → finish-lts.Need-returns-4 (callees t) (finish-at t) finish.Post finish-Inv-loop finish-μ-loop
+finish-returns-4 t c = record { size = (c .before .before .before .finish .ensures .size); answer = rw (c .if4 .taken) (answer-next (next-lot (c .before .before .before .before .before .before .before .before .before .before .before .before .before .before .before .before .before .before .before .before .before .before .before .before .before .before .before .before .before .before .before .before .before .before .before .pre .1 .0) (c .before .before .before .before .before .before .before .before .before .before .before .before .before .before .before .before .before .before .before .before .before .before .before .before .before .before .before .before .before .before .before .before .before .before .before .pre .1 .1 .0) (c .before .before .before .before .before .before .before .before .before .before .before .before .before .before .before .before .before .before .before .before .before .before .if2 .left)) (c .before .before .before .before .before .before .before .before .before .before .before .before .before .before .before .before .pick-slot .ensures) (low-slot (c .before .before .before .before .before .before .before .before .before .before .before .before .if3 .left) (c .before .before .before .before .before .before .before .before .before .before .before .before .before .before .before .before .before .before .before .before .before .before .before .before .before .before .before .before .before .before .before .before .before .before .before .pre .1 .1 .1)) (c .before .before .before .before .before .before .choose .result .0) (c .before .before .before .finish .result .order) (c .before .before .before .before .before .before .before .before .before .before .before .before .before .before .before .before .before .before .before .before .before .before .before .before .before .before .before .before .before .before .before .before .before .before .before .args .most) (rw (c .if4 .taken) at (c .before .before .before .finish .ensures .answer))) }
+
+finish-cast-if5 : (t : ℕ) → finish-lts.Need-cast-if5 (callees t) (finish-at t) finish.Post finish-Inv-loop finish-μ-loop
+finish-cast-if5 t c = search needs
+
+finish-array-read-if5 : (t : ℕ) → finish-lts.Need-array-read-if5 (callees t) (finish-at t) finish.Post finish-Inv-loop finish-μ-loop
+finish-array-read-if5 t c = omega (arith, (c .before .before .before .before .before .finish .ensures .size), week-few (next-lot (c .before .before .before .before .before .before .before .before .before .before .before .before .before .before .before .before .before .before .before .before .before .before .before .before .before .before .before .before .before .before .before .before .before .before .before .before .before .pre .1 .0) (c .before .before .before .before .before .before .before .before .before .before .before .before .before .before .before .before .before .before .before .before .before .before .before .before .before .before .before .before .before .before .before .before .before .before .before .before .before .pre .1 .1 .0) (c .before .before .before .before .before .before .before .before .before .before .before .before .before .before .before .before .before .before .before .before .before .before .before .before .if2 .left)), (c .before .before .before .before .before .before .before .before .before .before .before .before .before .before .before .before .before .before .before .before .before .before .before .before .if2 .left))
+
+finish-same-length-4 : (t : ℕ) → finish-lts.Need-same-length-4 (callees t) (finish-at t) finish.Post finish-Inv-loop finish-μ-loop
+finish-same-length-4 t c = (c .before .before .before .before .before .weights3 .given) ∙ (c .before .before .before .before .before .before .before .before .before .before .before .before .before .before .before .before .before .before .weights2 .given) ∙ (c .before .before .before .before .before .before .before .before .before .before .before .before .before .before .before .before .before .before .before .before .before .loop .inv .0)
+
+finish-returns-5 : (t : ℕ) → finish-lts.Need-returns-5 (callees t) (finish-at t) finish.Post finish-Inv-loop finish-μ-loop
+finish-returns-5 t c = record { size = (c .before .before .before .before .before .before .finish .ensures .size); answer = rw (c .before .before .before .if4 .left) (answer-jump (next-lot (c .before .before .before .before .before .before .before .before .before .before .before .before .before .before .before .before .before .before .before .before .before .before .before .before .before .before .before .before .before .before .before .before .before .before .before .before .before .before .pre .1 .0) (c .before .before .before .before .before .before .before .before .before .before .before .before .before .before .before .before .before .before .before .before .before .before .before .before .before .before .before .before .before .before .before .before .before .before .before .before .before .before .pre .1 .1 .0) (c .before .before .before .before .before .before .before .before .before .before .before .before .before .before .before .before .before .before .before .before .before .before .before .before .before .if2 .left)) (c .before .before .before .before .before .before .before .before .before .before .before .before .before .before .before .before .before .before .before .pick-slot .ensures) (low-slot (c .before .before .before .before .before .before .before .before .before .before .before .before .before .before .before .if3 .left) (c .before .before .before .before .before .before .before .before .before .before .before .before .before .before .before .before .before .before .before .before .before .before .before .before .before .before .before .before .before .before .before .before .before .before .before .before .before .before .pre .1 .1 .1)) (c .before .before .before .before .before .before .before .before .before .choose .result .0) (c .before .before .before .before .before .before .finish .result .order) (rw (c .before .before .before .if4 .left) at (c .before .before .before .before .before .before .finish .ensures .answer)) (c .before .before .before .before .before .before .before .before .before .before .before .before .before .before .before .before .before .before .before .before .before .before .before .before .before .before .before .before .before .before .before .before .before .before .before .before .before .before .args .most) (c .if5 .taken)) }
+
+finish-merged-requires : (t : ℕ) → finish-lts.Need-merged-requires (callees t) (finish-at t) finish.Post finish-Inv-loop finish-μ-loop
+finish-merged-requires t c κs = ((c .before .before .before .before .before .before .before .before .before .before .before .before .before .before .before .before .before .before .before .pick-slot .ensures .held .size), (c .before .before .before .before .before .before .finish .ensures .size))
+
+finish-add-from : (t : ℕ) → finish-lts.Need-add-from (callees t) (finish-at t) finish.Post finish-Inv-loop finish-μ-loop
+finish-add-from t c = omega (arith, (low-slot (c .before .before .before .before .before .before .before .before .before .before .before .before .before .before .before .before .if3 .left) (c .before .before .before .before .before .before .before .before .before .before .before .before .before .before .before .before .before .before .before .before .before .before .before .before .before .before .before .before .before .before .before .before .before .before .before .before .before .before .before .pre .1 .1 .1)))
+
+finish-loop-less : (t : ℕ) → finish-lts.Need-loop-less (callees t) (finish-at t) finish.Post finish-Inv-loop finish-μ-loop
+finish-loop-less t c = let l = (c .before .before .before .before .before .before .before .before .before .before .before .before .before .before .before .before .before .before .before .before .pick-slot .ensures .low) (low-slot (c .before .before .before .before .before .before .before .before .before .before .before .before .before .before .before .before .if3 .left) (c .before .before .before .before .before .before .before .before .before .before .before .before .before .before .before .before .before .before .before .before .before .before .before .before .before .before .before .before .before .before .before .before .before .before .before .before .before .before .before .pre .1 .1 .1)) in let h = (low-slot (c .before .before .before .before .before .before .before .before .before .before .before .before .before .before .before .before .if3 .left) (c .before .before .before .before .before .before .before .before .before .before .before .before .before .before .before .before .before .before .before .before .before .before .before .before .before .before .before .before .before .before .before .before .before .before .before .before .before .before .before .pre .1 .1 .1)) in omega arith
+
+finish-loop-again : (t : ℕ) → finish-lts.Need-loop-again (callees t) (finish-at t) finish.Post finish-Inv-loop finish-μ-loop
+finish-loop-again t c = ((c .before .before .before .before .before .before .weights3 .given) ∙ (c .before .before .before .before .before .before .before .before .before .before .before .before .before .before .before .before .before .before .before .weights2 .given) ∙ (c .before .before .before .before .before .before .before .before .before .before .before .before .before .before .before .before .before .before .before .before .before .before .loop .inv .0), (let h = (low-slot (c .before .before .before .before .before .before .before .before .before .before .before .before .before .before .before .before .if3 .left) (c .before .before .before .before .before .before .before .before .before .before .before .before .before .before .before .before .before .before .before .before .before .before .before .before .before .before .before .before .before .before .before .before .before .before .before .before .before .before .before .pre .1 .1 .1)) in omega arith), held-next (next-lot (c .before .before .before .before .before .before .before .before .before .before .before .before .before .before .before .before .before .before .before .before .before .before .before .before .before .before .before .before .before .before .before .before .before .before .before .before .before .before .before .pre .1 .0) (c .before .before .before .before .before .before .before .before .before .before .before .before .before .before .before .before .before .before .before .before .before .before .before .before .before .before .before .before .before .before .before .before .before .before .before .before .before .before .before .pre .1 .1 .0) (c .before .before .before .before .before .before .before .before .before .before .before .before .before .before .before .before .before .before .before .before .before .before .before .before .before .before .if2 .left)) (c .before .before .before .before .before .before .before .before .before .before .before .before .before .before .before .before .before .before .before .before .pick-slot .ensures) (low-slot (c .before .before .before .before .before .before .before .before .before .before .before .before .before .before .before .before .if3 .left) (c .before .before .before .before .before .before .before .before .before .before .before .before .before .before .before .before .before .before .before .before .before .before .before .before .before .before .before .before .before .before .before .before .before .before .before .before .before .before .before .pre .1 .1 .1)) (c .before .before .before .before .before .before .before .before .before .before .choose .result .0) (c .before .before .before .before .before .before .before .finish .result .order) (rw (c .before .before .before .before .if4 .left) at (c .before .before .before .before .before .before .before .finish .ensures .answer)) _ (c .merged .ensures))
 
 pub +finish-spec : {M : Type 1} → statement M
-+finish-spec = close μ-finish λ t. finish-lts.spec (
-  pick-slot-reads.Asked,
-  pick-slot-reads.Learnt,
-  met-words-reads.Asked,
-  met-words-reads.Learnt,
-  choose-reads.Asked,
-  choose-reads.Learnt,
-  finish-below t,
-  finish.Post,
-)
++finish-spec = close μ-finish λ t. finish-lts.spec (callees t)
     (finish-at t)
     finish.Post
     finish-Inv-loop
     finish-μ-loop
+    (finish-slice-aggregate-all-safe t)
+    (finish-all-safe-requires t)
+    (finish-heavier-lost-requires t)
+    (finish-why-unsafe-requires t)
+    (finish-same-length t)
+    (finish-returns t)
+    (finish-cast-if2 t)
+    (finish-returns-2 t)
+    (finish-slice-aggregate-blamed t)
+    (finish-word-of-requires t)
+    (finish-blamed-requires t)
     (finish-loop-holds t)
     (finish-pick-slot-requires t)
-    (finish-returns t)
-    (finish-met-words-requires t)
+    (finish-same-length-2 t)
+    (finish-returns-3 t)
     (finish-cast-with t)
     (finish-array-write-with t)
     (finish-slice-aggregate-choose t)
     (finish-slice-aggregate-choose-2 t)
     (finish-choose-requires t)
-    (finish-cast-if2 t)
-    (finish-returns-2 t)
     (finish-slice-aggregate-finish t)
     (finish-finish-requires t)
-    (finish-returns-3 t)
+    (finish-same-length-3 t)
+    (finish-returns-4 t)
+    (finish-cast-if5 t)
+    (finish-array-read-if5 t)
+    (finish-same-length-4 t)
+    (finish-returns-5 t)
+    (finish-merged-requires t)
     (finish-add-from t)
     (finish-loop-less t)
     (finish-loop-again t)

@@ -8,8 +8,8 @@ use Rattle.lex.specs.Every.{count}
 use Rattle.week.specs.Rules.{rules}
 use Rattle.repair.specs.Found.{lotsOf}
 use Rattle.repair.specs.Repair.{case}
-use Rattle.parts.specs.Part.{placed, unplaced}
-use Rattle.parts.proofs.Slots.{Above, above-start}
+use Rattle.parts.specs.Part.{Above, placed, unplaced}
+use Rattle.parts.proofs.Slots.{above-start}
 use Rattle.cuts.specs.Cut.{RepairsOn}
 use Rattle.finish.proofs.Tests.{tells-no, tells-yes, passed-clash, passed-held, passed-no, passed-all, moving-next, moving-less}
 use Prim.Native.Nat.{ℕ, _-_, _≤_, _<_}
