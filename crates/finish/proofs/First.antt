@@ -24,9 +24,10 @@ use Rattle.cuts.specs.Cut.{robustOn}
 use Rattle.cuts.specs.Hopes.{Forward, lives, alive, hopes, Supers}
 use Rattle.cuts.proofs.Hopes.{supers-long, supers-under, hopes-tested, super-none, super-found}
 use Rattle.cuts.proofs.Words.{forward-start, lives-word}
-use Rattle.finish.specs.Tests.{metWord, Made}
-use Rattle.finish.specs.Search.{Best, Going, Next, Answers, Known}
-use Rattle.finish.proofs.Blame.{blank}
+use Rattle.room.specs.Words.{metWord, Made}
+use Rattle.hope.specs.Safe.{Going}
+use Rattle.finish.specs.Search.{Best, Next, Answers, Known}
+use Rattle.hope.proofs.Blame.{blank}
 use Rattle.finish.proofs.Search.{forward-next}
 
 -- Where no lot is placed

@@ -1,5 +1,3 @@
-pub mod Tests
-pub mod Blame
-pub mod Safe
+pub mod Next
 pub mod Search
 pub mod First

@@ -24,9 +24,12 @@ use Rattle.cuts.proofs.Hopes.{left-order, supers-under, hopes-tested}
 use Rattle.cuts.proofs.Reasons.{left-part, starved-none}
 use Rattle.cuts.proofs.Words.{alive-place, lives-word}
 use Rattle.finish.specs.declared.Picked.{Picked}
-use Rattle.finish.specs.Tests.{metWord, Made}
-use Rattle.finish.specs.Search.{Best, Merged, Bound, Blamed, Going, Next, Held, Picks, Answers, Known}
-use Rattle.finish.proofs.Tests.{made-forward, met-left, made-next}
+use Rattle.room.specs.Words.{metWord, Made}
+use Rattle.hope.specs.Blame.{Merged, Bound, Blamed}
+use Rattle.hope.specs.Safe.{Going}
+use Rattle.finish.specs.Search.{Best, Next, Held, Picks, Answers, Known}
+use Rattle.finish.proofs.Next.{made-forward, met-left}
+use Rattle.room.proofs.Words.{made-next}
 
 pub placed-low : (s : List ℕ) (q : ℕ) → placed 16 s q ≡ true → 16 ≤ getD s q 0 → ⊥
 placed-low s q e h = let l = ltb-true (getD s q 0) 16 e in omega arith

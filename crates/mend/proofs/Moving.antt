@@ -24,9 +24,9 @@ use Rattle.repair.specs.declared.Lost.{Lost}
 use Rattle.repair.specs.Found.{lotsOf}
 use Rattle.repair.specs.Repair.{Case, isLost, mayGo, moves}
 use Rattle.repair.proofs.Mends.{lost-either}
-use Rattle.parts.specs.Part.{placed, unplaced}
+use Rattle.parts.specs.Part.{placed, unplaced, Above}
 use Rattle.parts.proofs.Part.{count-one, count-place}
-use Rattle.parts.proofs.Slots.{Above, above-all, above-next, above-fails}
+use Rattle.parts.proofs.Slots.{above-all, above-next, above-fails}
 use Rattle.cuts.specs.Hopes.{suits, suitsOn}
 use Rattle.cuts.specs.Moves.{mayLeave, calm, lands, sound, uses, may, hasTo, Settled}
 use Rattle.cuts.specs.Reasons.{asked, Struck, Judges, Later, Spent}

@@ -240,9 +240,8 @@ fn mends(
     Mended { is: false, met }
 }
 
-// Whether the placed lots have a repair for a loss that breaks them; if not, no super solution extends the order. Where `tight`, the room that is left to
-// the other lots is asked too: `words` has the slots left to each lot, and no two lots of one group may stand in one slot.
-pub fn has_repair(
+// Whether the placed lots have a repair for a loss that breaks them, one that leaves the other lots room where `tight`.
+fn repair_by(
     numbers: Numbers,
     domain: &[u16],
     loss: &[u16],
@@ -275,5 +274,62 @@ pub fn has_repair(
         held,
         gone,
         numbers.b,
+    )
+}
+
+// Whether the placed lots have a repair for a loss that breaks them; if not, no super solution extends the order. Room is not asked, so that any words and
+// groups will do.
+pub fn has_repair(
+    numbers: Numbers,
+    domain: &[u16],
+    loss: &[u16],
+    give: &[u16],
+    ties: &[u16],
+    order: &[u8],
+    lost: Lost,
+) -> Mended
+    requires { ⌜ Struck (week numbers (now domain) (now loss) (now give) (now ties)) (now order) (lotsOf lost) ⌝ }
+    ensures { λ r. ⌜ Judges (week numbers (now (domain .entry)) (now (loss .entry)) (now (give .entry)) (now (ties .entry))) (now (order .entry)) (lotsOf lost) (r .is) ⌝ }
+{
+    repair_by(
+        numbers,
+        domain,
+        loss,
+        give,
+        ties,
+        order,
+        domain,
+        order,
+        false,
+        lost,
+    )
+}
+
+// The same, of repairs that leave the other lots room: `words` has the slots left to each lot, and no two lots of one group may stand in one slot.
+pub fn has_roomy_repair(
+    numbers: Numbers,
+    domain: &[u16],
+    loss: &[u16],
+    give: &[u16],
+    ties: &[u16],
+    order: &[u8],
+    words: &[u16],
+    groups: &[u8],
+    lost: Lost,
+) -> Mended
+    requires { ⌜ Struck (week numbers (now domain) (now loss) (now give) (now ties)) (now order) (lotsOf lost) × Roomed (week numbers (now domain) (now loss) (now give) (now ties)) (now order) (now words) (now groups) ⌝ }
+    ensures { λ r. ⌜ Judges (week numbers (now (domain .entry)) (now (loss .entry)) (now (give .entry)) (now (ties .entry))) (now (order .entry)) (lotsOf lost) (r .is) ⌝ }
+{
+    repair_by(
+        numbers,
+        domain,
+        loss,
+        give,
+        ties,
+        order,
+        words,
+        groups,
+        true,
+        lost,
     )
 }

@@ -27,7 +27,7 @@ fn is_apart(n: u32, ties: &[u16], p: Lot, q: Lot) -> bool
 }
 
 // A lot's group; 0 beyond the end.
-fn group_of(groups: &[u8], p: Lot) -> Lot
+pub fn group_of(groups: &[u8], p: Lot) -> Lot
     ensures { λ r. ⌜ r .0 ≡ getD (now (groups .entry)) (p .0) 0 ⌝ }
 {
     let g = week::slot_in(groups, p);
@@ -93,7 +93,7 @@ pub fn groups(n: u32, ties: &[u16]) -> [u8; 24]
 }
 
 // Whether a lot is placed.
-fn is_placed(order: &[u8], p: Lot) -> bool
+pub fn is_placed(order: &[u8], p: Lot) -> bool
     ensures { λ r. ⌜ r ≡ placed 16 (now (order .entry)) (p .0) ⌝ }
 {
     let v = week::slot_in(order, p);
@@ -101,7 +101,7 @@ fn is_placed(order: &[u8], p: Lot) -> bool
 }
 
 // A lot's word once lot x gets slot v.
-fn met_word(n: u32, ties: &[u16], words: &[u16], x: Lot, v: Slot, p: Lot) -> u16
+pub fn met_word(n: u32, ties: &[u16], words: &[u16], x: Lot, v: Slot, p: Lot) -> u16
     ensures { λ r. ⌜ r ≡ metWord n (now (ties .entry)) (now (words .entry)) (x .0) (v .0) (p .0) ⌝ }
 {
     let own = week::word_of(words, p);
@@ -126,7 +126,7 @@ pub fn met_words(n: u32, ties: &[u16], words: &[u16], x: Lot, v: Slot) -> [u16; 
 }
 
 // Every lot's word, by value: those of the domains are the forward words where no lot is placed.
-fn first_words(n: u32, domain: &[u16]) -> [u16; 24]
+pub fn first_words(n: u32, domain: &[u16]) -> [u16; 24]
     requires { ⌜ n ≤ 24 ⌝ }
     ensures { λ r. ⌜ Made n (λ p. getD (now (domain .entry)) p 0) r ⌝ }
 {
@@ -159,13 +159,13 @@ pub fn words_of(n: u32, domain: &[u16], ties: &[u16], order: &[u8]) -> [u16; 24]
 }
 
 // By group, how many of its lots wait and the slots that are left to any of them.
-struct Rooms {
-    lots: [u8; 24],
-    slots: [u16; 24],
+pub struct Rooms {
+    pub lots: [u8; 24],
+    pub slots: [u16; 24],
 }
 
 // The waiting lots of every group and their slots, counted in one go.
-fn count_rooms(n: u32, order: &[u8], words: &[u16], groups: &[u8]) -> Rooms
+pub fn count_rooms(n: u32, order: &[u8], words: &[u16], groups: &[u8]) -> Rooms
     requires { ⌜ n ≤ 24 ⌝ }
     ensures { λ r. ⌜ Counted (now (order .entry)) (now (groups .entry)) (λ q. getD (now (words .entry)) q 0) n (r .lots) (r .slots) ⌝ }
 {

@@ -120,7 +120,8 @@ pub fn solve(
     if refused != 0 {
         return refused;
     }
-    let found = finish::find_super(numbers, domain, loss, give, ties);
+    let mut tally = [1u32; 25];
+    let found = finish::find_super(numbers, domain, loss, give, ties, &mut tally);
     if !found.is {
         return 5;
     }

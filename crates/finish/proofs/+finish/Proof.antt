@@ -16,35 +16,35 @@ use borrow.Fn.PlainCycle.{Measures, is, falls, and}
 use Rattle.finish.proofs.finish.Reads as finish
 use Rattle.finish.proofs.finish.Kinds as finish-kinds
 use Rattle.finish.proofs.+finish.Lts-finish as finish-lts
-use Rattle.finish.proofs.all_safe.Reads as all-safe-reads
-use Rattle.finish.proofs.blamed.Reads as blamed-reads
 use Rattle.finish.proofs.choose.Reads as choose-reads
-use Rattle.finish.proofs.heavier_lost.Reads as heavier-lost-reads
-use Rattle.finish.proofs.merged.Reads as merged-reads
+use Rattle.finish.proofs.count_lost.Reads as count-lost-reads
+use Rattle.finish.proofs.count_one.Reads as count-one-reads
 use Rattle.finish.proofs.pick_slot.Reads as pick-slot-reads
-use Rattle.finish.proofs.why_unsafe.Reads as why-unsafe-reads
+use Rattle.hope.proofs.blamed.Reads as blamed-reads
+use Rattle.hope.proofs.judge.Reads as judge-reads
+use Rattle.hope.proofs.merged.Reads as merged-reads
 use Rattle.week.proofs.word_of.Reads as word-of-reads
 use Rattle.finish.proofs.+finish.{statement}
 use Rattle.finish.proofs.+finish.Tie.{close}
 
-abbrev μ-finish : Measures 6 finish-kinds.ps ℕ
+abbrev μ-finish : Measures 7 finish-kinds.ps ℕ
 μ-finish κs a = count (unplaced 16 (a .1 .1 .1 .1 .1 .0)) (a .0 .n)
 
-abbrev finish-at : ℕ → In 6 finish-kinds.ps
-finish-at t = and 6 finish-kinds.ps (is 6 finish-kinds.ps μ-finish t) finish.Pre
+abbrev finish-at : ℕ → In 7 finish-kinds.ps
+finish-at t = and 7 finish-kinds.ps (is 7 finish-kinds.ps μ-finish t) finish.Pre
 
-abbrev finish-below : ℕ → In 6 finish-kinds.ps
-finish-below t = and 6 finish-kinds.ps (falls 6 finish-kinds.ps _<_ μ-finish t) finish.Pre
+abbrev finish-below : ℕ → In 7 finish-kinds.ps
+finish-below t = and 7 finish-kinds.ps (falls 7 finish-kinds.ps _<_ μ-finish t) finish.Pre
 
 -- what the calls ask and tell
 abbrev callees : ℕ → finish-lts.Claims
 callees t = (
-  all-safe-reads.Asked,
-  all-safe-reads.Learnt,
-  heavier-lost-reads.Asked,
-  heavier-lost-reads.Learnt,
-  why-unsafe-reads.Asked,
-  why-unsafe-reads.Learnt,
+  count-one-reads.Asked,
+  count-one-reads.Learnt,
+  judge-reads.Asked,
+  judge-reads.Learnt,
+  count-lost-reads.Asked,
+  count-lost-reads.Learnt,
   word-of-reads.Asked,
   word-of-reads.Learnt,
   blamed-reads.Asked,
@@ -60,106 +60,106 @@ callees t = (
 )
 
 abbrev finish-Inv-loop : finish-lts.InvT-loop
-finish-Inv-loop numbers domain loss give ties words weights₀ x most order why₀ from₀ weights why from = (length weights ≡ length weights₀) × (from ≤ 16) × Held (week numbers domain loss give ties) order words (x .0) from why
+finish-Inv-loop numbers domain loss give ties words groups tally₀ x most order why₀ from₀ tally why from = (length tally ≡ length tally₀) × (from ≤ 16) × Held (week numbers domain loss give ties) order words (x .0) from why
 
 abbrev finish-μ-loop : finish-lts.MeasureT-loop
-finish-μ-loop numbers domain loss give ties words weights₀ x most order why₀ from₀ weights why from = 16 - from
+finish-μ-loop numbers domain loss give ties words groups tally₀ x most order why₀ from₀ tally why from = 16 - from
 
-finish-slice-aggregate-all-safe : (t : ℕ) → finish-lts.Need-slice-aggregate-all-safe (callees t) (finish-at t) finish.Post finish-Inv-loop finish-μ-loop
-finish-slice-aggregate-all-safe t c = sym (c .before .before .before .before .before .before .before .pre .1 .0 .size)
+finish-count-one-requires : (t : ℕ) → finish-lts.Need-count-one-requires (callees t) (finish-at t) finish.Post finish-Inv-loop finish-μ-loop
+finish-count-one-requires t c κs = search needs
 
-finish-all-safe-requires : (t : ℕ) → finish-lts.Need-all-safe-requires (callees t) (finish-at t) finish.Post finish-Inv-loop finish-μ-loop
-finish-all-safe-requires t c κs = (c .before .before .before .before .before .before .before .pre .1 .0)
+finish-judge-requires : (t : ℕ) → finish-lts.Need-judge-requires (callees t) (finish-at t) finish.Post finish-Inv-loop finish-μ-loop
+finish-judge-requires t c κs = (c .before .before .before .before .before .before .before .before .before .before .before .pre .1 .1 .0, c .before .before .before .before .before .before .before .before .before .before .before .pre .1 .0)
 
-finish-heavier-lost-requires : (t : ℕ) → finish-lts.Need-heavier-lost-requires (callees t) (finish-at t) finish.Post finish-Inv-loop finish-μ-loop
-finish-heavier-lost-requires t c κs = search needs
-
-finish-why-unsafe-requires : (t : ℕ) → finish-lts.Need-why-unsafe-requires (callees t) (finish-at t) finish.Post finish-Inv-loop finish-μ-loop
-finish-why-unsafe-requires t c κs = ((c .before .before .before .before .before .before .before .before .before .before .before .before .before .before .pre .1 .0 .size), rw (not-true (c .before .before .before .before .before .before .all-safe .result .is) (c .before .before .before .before .if1 .taken)) at (c .before .before .before .before .before .before .all-safe .ensures))
+finish-count-lost-requires : (t : ℕ) → finish-lts.Need-count-lost-requires (callees t) (finish-at t) finish.Post finish-Inv-loop finish-μ-loop
+finish-count-lost-requires t c κs = search needs
 
 finish-same-length : (t : ℕ) → finish-lts.Need-same-length (callees t) (finish-at t) finish.Post finish-Inv-loop finish-μ-loop
-finish-same-length t c = (c .before .before .weights .given)
+finish-same-length t c = c .before .tally2 .given ∙ c .before .before .before .before .before .before .before .before .before .before .tally .given
 
 finish-returns : (t : ℕ) → finish-lts.Need-returns (callees t) (finish-at t) finish.Post finish-Inv-loop finish-μ-loop
-finish-returns t c = record { size = (c .why-unsafe .ensures .0); answer = answer-why _ _ _ (c .why-unsafe .ensures .1) }
+finish-returns t c = record { size = c .before .before .before .before .before .before .before .before .judge .ensures .0; answer = answer-why _ _ _ (rw (not-true (c .before .before .before .before .before .before .before .before .judge .result .is) (c .before .before .before .before .before .before .if1 .taken)) at (c .before .before .before .before .before .before .before .before .judge .ensures .1)) }
 
 finish-cast-if2 : (t : ℕ) → finish-lts.Need-cast-if2 (callees t) (finish-at t) finish.Post finish-Inv-loop finish-μ-loop
 finish-cast-if2 t c = search needs
 
+finish-same-length-2 : (t : ℕ) → finish-lts.Need-same-length-2 (callees t) (finish-at t) finish.Post finish-Inv-loop finish-μ-loop
+finish-same-length-2 t c = c .before .before .before .before .before .before .before .tally .given
+
 finish-returns-2 : (t : ℕ) → finish-lts.Need-returns-2 (callees t) (finish-at t) finish.Post finish-Inv-loop finish-μ-loop
-finish-returns-2 t c = record { size = (c .before .before .before .before .before .before .before .before .before .before .before .before .before .pre .1 .0 .size); answer = answer-full (c .before .before .before .before .before .before .before .before .before .before .before .before .before .pre .1 .0) (c .before .before .before .before .before .before .before .before .before .before .before .before .before .pre .1 .1 .0) (c .before .before .before .before .before .before .before .before .before .before .before .before .before .args .most) (rw (not-false (c .before .before .before .before .before .all-safe .result .is) (c .before .before .before .if1 .left)) at (c .before .before .before .before .before .all-safe .ensures)) (c .if2 .taken) }
+finish-returns-2 t c = record { size = c .before .before .before .before .before .before .before .before .before .before .before .before .before .before .before .before .before .pre .1 .1 .0 .size; answer = answer-full (c .before .before .before .before .before .before .before .before .before .before .before .before .before .before .before .before .before .pre .1 .1 .0) (c .before .before .before .before .before .before .before .before .before .before .before .before .before .before .before .before .before .pre .1 .1 .1 .0) (c .before .before .before .before .before .before .before .before .before .before .before .before .before .before .before .before .before .args .most) (rw (not-false (c .before .before .before .before .before .judge .result .is) (c .before .before .before .if1 .left)) at (c .before .before .before .before .before .judge .ensures .1)) (c .if2 .taken) }
 
 finish-slice-aggregate-blamed : (t : ℕ) → finish-lts.Need-slice-aggregate-blamed (callees t) (finish-at t) finish.Post finish-Inv-loop finish-μ-loop
-finish-slice-aggregate-blamed t c = sym (c .before .before .before .before .before .before .before .before .before .before .before .before .before .before .pre .1 .0 .size)
+finish-slice-aggregate-blamed t c = sym (c .before .before .before .before .before .before .before .before .before .before .before .before .before .before .before .before .before .before .pre .1 .1 .0 .size)
 
 finish-word-of-requires : (t : ℕ) → finish-lts.Need-word-of-requires (callees t) (finish-at t) finish.Post finish-Inv-loop finish-μ-loop
 finish-word-of-requires t c κs = search needs
 
 finish-blamed-requires : (t : ℕ) → finish-lts.Need-blamed-requires (callees t) (finish-at t) finish.Post finish-Inv-loop finish-μ-loop
-finish-blamed-requires t c κs = bound-own (next-lot (c .before .before .before .before .before .before .before .before .before .before .before .before .before .before .before .pre .1 .0) (c .before .before .before .before .before .before .before .before .before .before .before .before .before .before .before .pre .1 .1 .0) (c .before .before .if2 .left)) _ (c .word-of .ensures)
+finish-blamed-requires t c κs = bound-own (next-lot (c .before .before .before .before .before .before .before .before .before .before .before .before .before .before .before .before .before .before .before .pre .1 .1 .0) (c .before .before .before .before .before .before .before .before .before .before .before .before .before .before .before .before .before .before .before .pre .1 .1 .1 .0) (c .before .before .if2 .left)) _ (c .word-of .ensures)
 
 finish-loop-holds : (t : ℕ) → finish-lts.Need-loop-holds (callees t) (finish-at t) finish.Post finish-Inv-loop finish-μ-loop
-finish-loop-holds t c = (refl, omega arith, held-start (next-lot (c .before .before .before .before .before .before .before .before .before .before .before .before .before .before .before .before .pre .1 .0) (c .before .before .before .before .before .before .before .before .before .before .before .before .before .before .before .before .pre .1 .1 .0) (c .before .before .before .if2 .left)) _ _ (c .before .word-of .ensures) (c .blamed .ensures))
+finish-loop-holds t c = (refl, omega arith, held-start (next-lot (c .before .before .before .before .before .before .before .before .before .before .before .before .before .before .before .before .before .before .before .before .pre .1 .1 .0) (c .before .before .before .before .before .before .before .before .before .before .before .before .before .before .before .before .before .before .before .before .pre .1 .1 .1 .0) (c .before .before .before .if2 .left)) _ _ (c .before .word-of .ensures) (c .blamed .ensures))
 
 finish-pick-slot-requires : (t : ℕ) → finish-lts.Need-pick-slot-requires (callees t) (finish-at t) finish.Post finish-Inv-loop finish-μ-loop
-finish-pick-slot-requires t c κs = ((next-lot (c .before .before .before .before .before .before .before .before .before .before .before .before .before .before .before .before .before .before .pre .1 .0) (c .before .before .before .before .before .before .before .before .before .before .before .before .before .before .before .before .before .before .pre .1 .1 .0) (c .before .before .before .before .before .if2 .left)), (c .before .loop .inv .2))
+finish-pick-slot-requires t c κs = ((next-lot (c .before .before .before .before .before .before .before .before .before .before .before .before .before .before .before .before .before .before .before .before .before .before .pre .1 .1 .0) (c .before .before .before .before .before .before .before .before .before .before .before .before .before .before .before .before .before .before .before .before .before .before .pre .1 .1 .1 .0) (c .before .before .before .before .before .if2 .left)), (c .before .loop .inv .2))
 
-finish-same-length-2 : (t : ℕ) → finish-lts.Need-same-length-2 (callees t) (finish-at t) finish.Post finish-Inv-loop finish-μ-loop
-finish-same-length-2 t c = (c .before .before .before .weights2 .given) ∙ (c .before .before .before .before .before .before .loop .inv .0)
+finish-same-length-3 : (t : ℕ) → finish-lts.Need-same-length-3 (callees t) (finish-at t) finish.Post finish-Inv-loop finish-μ-loop
+finish-same-length-3 t c = c .before .before .before .tally3 .given ∙ c .before .before .before .before .before .before .loop .inv .0 ∙ c .before .before .before .before .before .before .before .before .before .before .before .before .before .before .before .before .before .tally .given
 
 finish-returns-3 : (t : ℕ) → finish-lts.Need-returns-3 (callees t) (finish-at t) finish.Post finish-Inv-loop finish-μ-loop
-finish-returns-3 t c = record { size = (c .before .before .before .before .pick-slot .ensures .held .size); answer = answer-none (next-lot (c .before .before .before .before .before .before .before .before .before .before .before .before .before .before .before .before .before .before .before .before .before .before .before .pre .1 .0) (c .before .before .before .before .before .before .before .before .before .before .before .before .before .before .before .before .before .before .before .before .before .before .before .pre .1 .1 .0) (c .before .before .before .before .before .before .before .before .before .before .if2 .left)) (c .before .before .before .before .pick-slot .ensures) (c .before .before .before .before .before .before .before .before .before .before .before .before .before .before .before .before .before .before .before .before .before .before .before .args .most) (c .if3 .taken) }
+finish-returns-3 t c = record { size = (c .before .before .before .before .pick-slot .ensures .held .size); answer = answer-none (next-lot (c .before .before .before .before .before .before .before .before .before .before .before .before .before .before .before .before .before .before .before .before .before .before .before .before .before .before .before .pre .1 .1 .0) (c .before .before .before .before .before .before .before .before .before .before .before .before .before .before .before .before .before .before .before .before .before .before .before .before .before .before .before .pre .1 .1 .1 .0) (c .before .before .before .before .before .before .before .before .before .before .if2 .left)) (c .before .before .before .before .pick-slot .ensures) (c .before .before .before .before .before .before .before .before .before .before .before .before .before .before .before .before .before .before .before .before .before .before .before .before .before .before .before .args .most) (c .if3 .taken) }
 
 finish-cast-with : (t : ℕ) → finish-lts.Need-cast-with (callees t) (finish-at t) finish.Post finish-Inv-loop finish-μ-loop
 finish-cast-with t c = search needs
 
 finish-array-write-with : (t : ℕ) → finish-lts.Need-array-write-with (callees t) (finish-at t) finish.Post finish-Inv-loop finish-μ-loop
-finish-array-write-with t c = omega (arith, week-few (next-lot (c .before .before .before .before .before .before .before .before .before .before .before .before .before .before .before .before .before .before .before .before .before .before .before .before .before .pre .1 .0) (c .before .before .before .before .before .before .before .before .before .before .before .before .before .before .before .before .before .before .before .before .before .before .before .before .before .pre .1 .1 .0) (c .before .before .before .before .before .before .before .before .before .before .before .before .if2 .left)), (c .before .before .before .before .before .before .before .before .before .before .before .before .if2 .left))
+finish-array-write-with t c = omega (arith, week-few (next-lot (c .before .before .before .before .before .before .before .before .before .before .before .before .before .before .before .before .before .before .before .before .before .before .before .before .before .before .before .before .before .pre .1 .1 .0) (c .before .before .before .before .before .before .before .before .before .before .before .before .before .before .before .before .before .before .before .before .before .before .before .before .before .before .before .before .before .pre .1 .1 .1 .0) (c .before .before .before .before .before .before .before .before .before .before .before .before .if2 .left)), (c .before .before .before .before .before .before .before .before .before .before .before .before .if2 .left))
 
 finish-slice-aggregate-choose : (t : ℕ) → finish-lts.Need-slice-aggregate-choose (callees t) (finish-at t) finish.Post finish-Inv-loop finish-μ-loop
-finish-slice-aggregate-choose t c = simp length-set (sym (c .before .before .before .before .before .before .before .before .before .before .before .before .before .before .before .before .before .before .before .before .before .before .before .before .before .before .pre .1 .0 .size))
+finish-slice-aggregate-choose t c = simp length-set (sym (c .before .before .before .before .before .before .before .before .before .before .before .before .before .before .before .before .before .before .before .before .before .before .before .before .before .before .before .before .before .before .pre .1 .1 .0 .size))
 
 finish-slice-aggregate-choose-2 : (t : ℕ) → finish-lts.Need-slice-aggregate-choose-2 (callees t) (finish-at t) finish.Post finish-Inv-loop finish-μ-loop
-finish-slice-aggregate-choose-2 t c = sym ((c .before .before .before .before .before .before .before .before .pick-slot .ensures .wide) (low-slot (c .before .before .before .before .if3 .left) (c .before .before .before .before .before .before .before .before .before .before .before .before .before .before .before .before .before .before .before .before .before .before .before .before .before .before .before .pre .1 .1 .1)))
+finish-slice-aggregate-choose-2 t c = sym ((c .before .before .before .before .before .before .before .before .pick-slot .ensures .wide) (low-slot (c .before .before .before .before .if3 .left) (c .before .before .before .before .before .before .before .before .before .before .before .before .before .before .before .before .before .before .before .before .before .before .before .before .before .before .before .before .before .before .before .pre .1 .1 .1 .1)))
 
 finish-choose-requires : (t : ℕ) → finish-lts.Need-choose-requires (callees t) (finish-at t) finish.Post finish-Inv-loop finish-μ-loop
-finish-choose-requires t c κs = week-few (next-lot (c .before .before .before .before .before .before .before .before .before .before .before .before .before .before .before .before .before .before .before .before .before .before .before .before .before .before .before .before .pre .1 .0) (c .before .before .before .before .before .before .before .before .before .before .before .before .before .before .before .before .before .before .before .before .before .before .before .before .before .before .before .before .pre .1 .1 .0) (c .before .before .before .before .before .before .before .before .before .before .before .before .before .before .before .if2 .left))
+finish-choose-requires t c κs = week-few (next-lot (c .before .before .before .before .before .before .before .before .before .before .before .before .before .before .before .before .before .before .before .before .before .before .before .before .before .before .before .before .before .before .before .before .pre .1 .1 .0) (c .before .before .before .before .before .before .before .before .before .before .before .before .before .before .before .before .before .before .before .before .before .before .before .before .before .before .before .before .before .before .before .before .pre .1 .1 .1 .0) (c .before .before .before .before .before .before .before .before .before .before .before .before .before .before .before .if2 .left))
 
 finish-slice-aggregate-finish : (t : ℕ) → finish-lts.Need-slice-aggregate-finish (callees t) (finish-at t) finish.Post finish-Inv-loop finish-μ-loop
-finish-slice-aggregate-finish t c = sym ((c .before .before .before .before .before .before .before .before .before .before .before .pick-slot .ensures .wide) (low-slot (c .before .before .before .before .before .before .before .if3 .left) (c .before .before .before .before .before .before .before .before .before .before .before .before .before .before .before .before .before .before .before .before .before .before .before .before .before .before .before .before .before .before .pre .1 .1 .1)))
+finish-slice-aggregate-finish t c = sym ((c .before .before .before .before .before .before .before .before .before .before .before .pick-slot .ensures .wide) (low-slot (c .before .before .before .before .before .before .before .if3 .left) (c .before .before .before .before .before .before .before .before .before .before .before .before .before .before .before .before .before .before .before .before .before .before .before .before .before .before .before .before .before .before .before .before .before .before .pre .1 .1 .1 .1)))
 
 finish-finish-requires : (t : ℕ) → finish-lts.Need-finish-requires (callees t) (finish-at t) finish.Post finish-Inv-loop finish-μ-loop
-finish-finish-requires t c κs = let fell : count (unplaced 16 (c .before .before .before .before .before .before .before .before .before .before .before .before .before .before .before .before .before .before .before .before .before .before .before .before .before .before .before .before .before .before .before .args .t6)) (c .before .before .before .before .before .before .before .before .before .before .before .before .before .before .before .before .before .before .before .before .before .before .before .before .before .before .before .before .before .before .before .args .numbers .n) ≡ t = (c .before .before .before .before .before .before .before .before .before .before .before .before .before .before .before .before .before .before .before .before .before .before .before .before .before .before .before .before .before .before .before .pre .0) in let less = next-less (next-lot (c .before .before .before .before .before .before .before .before .before .before .before .before .before .before .before .before .before .before .before .before .before .before .before .before .before .before .before .before .before .before .before .pre .1 .0) (c .before .before .before .before .before .before .before .before .before .before .before .before .before .before .before .before .before .before .before .before .before .before .before .before .before .before .before .before .before .before .before .pre .1 .1 .0) (c .before .before .before .before .before .before .before .before .before .before .before .before .before .before .before .before .before .before .if2 .left)) (c .before .before .before .before .before .before .before .before .before .before .before .before .pick-slot .ensures) (low-slot (c .before .before .before .before .before .before .before .before .if3 .left) (c .before .before .before .before .before .before .before .before .before .before .before .before .before .before .before .before .before .before .before .before .before .before .before .before .before .before .before .before .before .before .before .pre .1 .1 .1)) in (omega arith, ((c .before .before .before .before .before .before .before .before .before .before .before .before .pick-slot .ensures .next) (low-slot (c .before .before .before .before .before .before .before .before .if3 .left) (c .before .before .before .before .before .before .before .before .before .before .before .before .before .before .before .before .before .before .before .before .before .before .before .before .before .before .before .before .before .before .before .pre .1 .1 .1)), ((c .before .before .choose .ensures), omega arith)))
+finish-finish-requires t c κs = let fell : count (unplaced 16 (c .before .before .before .before .before .before .before .before .before .before .before .before .before .before .before .before .before .before .before .before .before .before .before .before .before .before .before .before .before .before .before .before .before .before .before .args .t6)) (c .before .before .before .before .before .before .before .before .before .before .before .before .before .before .before .before .before .before .before .before .before .before .before .before .before .before .before .before .before .before .before .before .before .before .before .args .numbers .n) ≡ t = (c .before .before .before .before .before .before .before .before .before .before .before .before .before .before .before .before .before .before .before .before .before .before .before .before .before .before .before .before .before .before .before .before .before .before .before .pre .0) in let less = next-less (next-lot (c .before .before .before .before .before .before .before .before .before .before .before .before .before .before .before .before .before .before .before .before .before .before .before .before .before .before .before .before .before .before .before .before .before .before .before .pre .1 .1 .0) (c .before .before .before .before .before .before .before .before .before .before .before .before .before .before .before .before .before .before .before .before .before .before .before .before .before .before .before .before .before .before .before .before .before .before .before .pre .1 .1 .1 .0) (c .before .before .before .before .before .before .before .before .before .before .before .before .before .before .before .before .before .before .if2 .left)) (c .before .before .before .before .before .before .before .before .before .before .before .before .pick-slot .ensures) (low-slot (c .before .before .before .before .before .before .before .before .if3 .left) (c .before .before .before .before .before .before .before .before .before .before .before .before .before .before .before .before .before .before .before .before .before .before .before .before .before .before .before .before .before .before .before .before .before .before .before .pre .1 .1 .1 .1)) in (omega arith, (c .before .before .before .before .before .before .before .before .before .before .before .before .before .before .before .before .before .before .before .before .before .before .before .before .before .before .before .before .before .before .before .before .before .before .before .pre .1 .0, ((c .before .before .before .before .before .before .before .before .before .before .before .before .pick-slot .ensures .next) (low-slot (c .before .before .before .before .before .before .before .before .if3 .left) (c .before .before .before .before .before .before .before .before .before .before .before .before .before .before .before .before .before .before .before .before .before .before .before .before .before .before .before .before .before .before .before .before .before .before .before .pre .1 .1 .1 .1)), ((c .before .before .choose .ensures), omega arith))))
 
-finish-same-length-3 : (t : ℕ) → finish-lts.Need-same-length-3 (callees t) (finish-at t) finish.Post finish-Inv-loop finish-μ-loop
-finish-same-length-3 t c = (c .before .before .weights3 .given) ∙ (c .before .before .before .before .before .before .before .before .before .before .before .before .before .before .before .weights2 .given) ∙ (c .before .before .before .before .before .before .before .before .before .before .before .before .before .before .before .before .before .before .loop .inv .0)
+finish-same-length-4 : (t : ℕ) → finish-lts.Need-same-length-4 (callees t) (finish-at t) finish.Post finish-Inv-loop finish-μ-loop
+finish-same-length-4 t c = c .before .before .tally4 .given ∙ c .before .before .before .before .before .before .before .before .before .before .before .before .before .before .before .tally3 .given ∙ c .before .before .before .before .before .before .before .before .before .before .before .before .before .before .before .before .before .before .loop .inv .0 ∙ c .before .before .before .before .before .before .before .before .before .before .before .before .before .before .before .before .before .before .before .before .before .before .before .before .before .before .before .before .before .tally .given
 
 finish-returns-4 : (t : ℕ) → finish-lts.Need-returns-4 (callees t) (finish-at t) finish.Post finish-Inv-loop finish-μ-loop
-finish-returns-4 t c = record { size = (c .before .before .before .finish .ensures .size); answer = rw (c .if4 .taken) (answer-next (next-lot (c .before .before .before .before .before .before .before .before .before .before .before .before .before .before .before .before .before .before .before .before .before .before .before .before .before .before .before .before .before .before .before .before .before .before .before .pre .1 .0) (c .before .before .before .before .before .before .before .before .before .before .before .before .before .before .before .before .before .before .before .before .before .before .before .before .before .before .before .before .before .before .before .before .before .before .before .pre .1 .1 .0) (c .before .before .before .before .before .before .before .before .before .before .before .before .before .before .before .before .before .before .before .before .before .before .if2 .left)) (c .before .before .before .before .before .before .before .before .before .before .before .before .before .before .before .before .pick-slot .ensures) (low-slot (c .before .before .before .before .before .before .before .before .before .before .before .before .if3 .left) (c .before .before .before .before .before .before .before .before .before .before .before .before .before .before .before .before .before .before .before .before .before .before .before .before .before .before .before .before .before .before .before .before .before .before .before .pre .1 .1 .1)) (c .before .before .before .before .before .before .choose .result .0) (c .before .before .before .finish .result .order) (c .before .before .before .before .before .before .before .before .before .before .before .before .before .before .before .before .before .before .before .before .before .before .before .before .before .before .before .before .before .before .before .before .before .before .before .args .most) (rw (c .if4 .taken) at (c .before .before .before .finish .ensures .answer))) }
+finish-returns-4 t c = record { size = (c .before .before .before .finish .ensures .size); answer = rw (c .if4 .taken) (answer-next (next-lot (c .before .before .before .before .before .before .before .before .before .before .before .before .before .before .before .before .before .before .before .before .before .before .before .before .before .before .before .before .before .before .before .before .before .before .before .before .before .before .before .pre .1 .1 .0) (c .before .before .before .before .before .before .before .before .before .before .before .before .before .before .before .before .before .before .before .before .before .before .before .before .before .before .before .before .before .before .before .before .before .before .before .before .before .before .before .pre .1 .1 .1 .0) (c .before .before .before .before .before .before .before .before .before .before .before .before .before .before .before .before .before .before .before .before .before .before .if2 .left)) (c .before .before .before .before .before .before .before .before .before .before .before .before .before .before .before .before .pick-slot .ensures) (low-slot (c .before .before .before .before .before .before .before .before .before .before .before .before .if3 .left) (c .before .before .before .before .before .before .before .before .before .before .before .before .before .before .before .before .before .before .before .before .before .before .before .before .before .before .before .before .before .before .before .before .before .before .before .before .before .before .before .pre .1 .1 .1 .1)) (c .before .before .before .before .before .before .choose .result .0) (c .before .before .before .finish .result .order) (c .before .before .before .before .before .before .before .before .before .before .before .before .before .before .before .before .before .before .before .before .before .before .before .before .before .before .before .before .before .before .before .before .before .before .before .before .before .before .before .args .most) (rw (c .if4 .taken) at (c .before .before .before .finish .ensures .answer))) }
 
 finish-cast-if5 : (t : ℕ) → finish-lts.Need-cast-if5 (callees t) (finish-at t) finish.Post finish-Inv-loop finish-μ-loop
 finish-cast-if5 t c = search needs
 
 finish-array-read-if5 : (t : ℕ) → finish-lts.Need-array-read-if5 (callees t) (finish-at t) finish.Post finish-Inv-loop finish-μ-loop
-finish-array-read-if5 t c = omega (arith, (c .before .before .before .before .before .finish .ensures .size), week-few (next-lot (c .before .before .before .before .before .before .before .before .before .before .before .before .before .before .before .before .before .before .before .before .before .before .before .before .before .before .before .before .before .before .before .before .before .before .before .before .before .pre .1 .0) (c .before .before .before .before .before .before .before .before .before .before .before .before .before .before .before .before .before .before .before .before .before .before .before .before .before .before .before .before .before .before .before .before .before .before .before .before .before .pre .1 .1 .0) (c .before .before .before .before .before .before .before .before .before .before .before .before .before .before .before .before .before .before .before .before .before .before .before .before .if2 .left)), (c .before .before .before .before .before .before .before .before .before .before .before .before .before .before .before .before .before .before .before .before .before .before .before .before .if2 .left))
+finish-array-read-if5 t c = omega (arith, (c .before .before .before .before .before .finish .ensures .size), week-few (next-lot (c .before .before .before .before .before .before .before .before .before .before .before .before .before .before .before .before .before .before .before .before .before .before .before .before .before .before .before .before .before .before .before .before .before .before .before .before .before .before .before .before .before .pre .1 .1 .0) (c .before .before .before .before .before .before .before .before .before .before .before .before .before .before .before .before .before .before .before .before .before .before .before .before .before .before .before .before .before .before .before .before .before .before .before .before .before .before .before .before .before .pre .1 .1 .1 .0) (c .before .before .before .before .before .before .before .before .before .before .before .before .before .before .before .before .before .before .before .before .before .before .before .before .if2 .left)), (c .before .before .before .before .before .before .before .before .before .before .before .before .before .before .before .before .before .before .before .before .before .before .before .before .if2 .left))
 
-finish-same-length-4 : (t : ℕ) → finish-lts.Need-same-length-4 (callees t) (finish-at t) finish.Post finish-Inv-loop finish-μ-loop
-finish-same-length-4 t c = (c .before .before .before .before .before .weights3 .given) ∙ (c .before .before .before .before .before .before .before .before .before .before .before .before .before .before .before .before .before .before .weights2 .given) ∙ (c .before .before .before .before .before .before .before .before .before .before .before .before .before .before .before .before .before .before .before .before .before .loop .inv .0)
+finish-same-length-5 : (t : ℕ) → finish-lts.Need-same-length-5 (callees t) (finish-at t) finish.Post finish-Inv-loop finish-μ-loop
+finish-same-length-5 t c = c .before .before .before .before .before .tally4 .given ∙ c .before .before .before .before .before .before .before .before .before .before .before .before .before .before .before .before .before .before .tally3 .given ∙ c .before .before .before .before .before .before .before .before .before .before .before .before .before .before .before .before .before .before .before .before .before .loop .inv .0 ∙ c .before .before .before .before .before .before .before .before .before .before .before .before .before .before .before .before .before .before .before .before .before .before .before .before .before .before .before .before .before .before .before .before .tally .given
 
 finish-returns-5 : (t : ℕ) → finish-lts.Need-returns-5 (callees t) (finish-at t) finish.Post finish-Inv-loop finish-μ-loop
-finish-returns-5 t c = record { size = (c .before .before .before .before .before .before .finish .ensures .size); answer = rw (c .before .before .before .if4 .left) (answer-jump (next-lot (c .before .before .before .before .before .before .before .before .before .before .before .before .before .before .before .before .before .before .before .before .before .before .before .before .before .before .before .before .before .before .before .before .before .before .before .before .before .before .pre .1 .0) (c .before .before .before .before .before .before .before .before .before .before .before .before .before .before .before .before .before .before .before .before .before .before .before .before .before .before .before .before .before .before .before .before .before .before .before .before .before .before .pre .1 .1 .0) (c .before .before .before .before .before .before .before .before .before .before .before .before .before .before .before .before .before .before .before .before .before .before .before .before .before .if2 .left)) (c .before .before .before .before .before .before .before .before .before .before .before .before .before .before .before .before .before .before .before .pick-slot .ensures) (low-slot (c .before .before .before .before .before .before .before .before .before .before .before .before .before .before .before .if3 .left) (c .before .before .before .before .before .before .before .before .before .before .before .before .before .before .before .before .before .before .before .before .before .before .before .before .before .before .before .before .before .before .before .before .before .before .before .before .before .before .pre .1 .1 .1)) (c .before .before .before .before .before .before .before .before .before .choose .result .0) (c .before .before .before .before .before .before .finish .result .order) (rw (c .before .before .before .if4 .left) at (c .before .before .before .before .before .before .finish .ensures .answer)) (c .before .before .before .before .before .before .before .before .before .before .before .before .before .before .before .before .before .before .before .before .before .before .before .before .before .before .before .before .before .before .before .before .before .before .before .before .before .before .args .most) (c .if5 .taken)) }
+finish-returns-5 t c = record { size = (c .before .before .before .before .before .before .finish .ensures .size); answer = rw (c .before .before .before .if4 .left) (answer-jump (next-lot (c .before .before .before .before .before .before .before .before .before .before .before .before .before .before .before .before .before .before .before .before .before .before .before .before .before .before .before .before .before .before .before .before .before .before .before .before .before .before .before .before .before .before .pre .1 .1 .0) (c .before .before .before .before .before .before .before .before .before .before .before .before .before .before .before .before .before .before .before .before .before .before .before .before .before .before .before .before .before .before .before .before .before .before .before .before .before .before .before .before .before .before .pre .1 .1 .1 .0) (c .before .before .before .before .before .before .before .before .before .before .before .before .before .before .before .before .before .before .before .before .before .before .before .before .before .if2 .left)) (c .before .before .before .before .before .before .before .before .before .before .before .before .before .before .before .before .before .before .before .pick-slot .ensures) (low-slot (c .before .before .before .before .before .before .before .before .before .before .before .before .before .before .before .if3 .left) (c .before .before .before .before .before .before .before .before .before .before .before .before .before .before .before .before .before .before .before .before .before .before .before .before .before .before .before .before .before .before .before .before .before .before .before .before .before .before .before .before .before .before .pre .1 .1 .1 .1)) (c .before .before .before .before .before .before .before .before .before .choose .result .0) (c .before .before .before .before .before .before .finish .result .order) (rw (c .before .before .before .if4 .left) at (c .before .before .before .before .before .before .finish .ensures .answer)) (c .before .before .before .before .before .before .before .before .before .before .before .before .before .before .before .before .before .before .before .before .before .before .before .before .before .before .before .before .before .before .before .before .before .before .before .before .before .before .before .before .before .before .args .most) (c .if5 .taken)) }
 
 finish-merged-requires : (t : ℕ) → finish-lts.Need-merged-requires (callees t) (finish-at t) finish.Post finish-Inv-loop finish-μ-loop
 finish-merged-requires t c κs = ((c .before .before .before .before .before .before .before .before .before .before .before .before .before .before .before .before .before .before .before .pick-slot .ensures .held .size), (c .before .before .before .before .before .before .finish .ensures .size))
 
 finish-add-from : (t : ℕ) → finish-lts.Need-add-from (callees t) (finish-at t) finish.Post finish-Inv-loop finish-μ-loop
-finish-add-from t c = omega (arith, (low-slot (c .before .before .before .before .before .before .before .before .before .before .before .before .before .before .before .before .if3 .left) (c .before .before .before .before .before .before .before .before .before .before .before .before .before .before .before .before .before .before .before .before .before .before .before .before .before .before .before .before .before .before .before .before .before .before .before .before .before .before .before .pre .1 .1 .1)))
+finish-add-from t c = omega (arith, (low-slot (c .before .before .before .before .before .before .before .before .before .before .before .before .before .before .before .before .if3 .left) (c .before .before .before .before .before .before .before .before .before .before .before .before .before .before .before .before .before .before .before .before .before .before .before .before .before .before .before .before .before .before .before .before .before .before .before .before .before .before .before .before .before .before .before .pre .1 .1 .1 .1)))
 
 finish-loop-less : (t : ℕ) → finish-lts.Need-loop-less (callees t) (finish-at t) finish.Post finish-Inv-loop finish-μ-loop
-finish-loop-less t c = let l = (c .before .before .before .before .before .before .before .before .before .before .before .before .before .before .before .before .before .before .before .before .pick-slot .ensures .low) (low-slot (c .before .before .before .before .before .before .before .before .before .before .before .before .before .before .before .before .if3 .left) (c .before .before .before .before .before .before .before .before .before .before .before .before .before .before .before .before .before .before .before .before .before .before .before .before .before .before .before .before .before .before .before .before .before .before .before .before .before .before .before .pre .1 .1 .1)) in let h = (low-slot (c .before .before .before .before .before .before .before .before .before .before .before .before .before .before .before .before .if3 .left) (c .before .before .before .before .before .before .before .before .before .before .before .before .before .before .before .before .before .before .before .before .before .before .before .before .before .before .before .before .before .before .before .before .before .before .before .before .before .before .before .pre .1 .1 .1)) in omega arith
+finish-loop-less t c = let l = (c .before .before .before .before .before .before .before .before .before .before .before .before .before .before .before .before .before .before .before .before .pick-slot .ensures .low) (low-slot (c .before .before .before .before .before .before .before .before .before .before .before .before .before .before .before .before .if3 .left) (c .before .before .before .before .before .before .before .before .before .before .before .before .before .before .before .before .before .before .before .before .before .before .before .before .before .before .before .before .before .before .before .before .before .before .before .before .before .before .before .before .before .before .before .pre .1 .1 .1 .1)) in let h = (low-slot (c .before .before .before .before .before .before .before .before .before .before .before .before .before .before .before .before .if3 .left) (c .before .before .before .before .before .before .before .before .before .before .before .before .before .before .before .before .before .before .before .before .before .before .before .before .before .before .before .before .before .before .before .before .before .before .before .before .before .before .before .before .before .before .before .pre .1 .1 .1 .1)) in omega arith
 
 finish-loop-again : (t : ℕ) → finish-lts.Need-loop-again (callees t) (finish-at t) finish.Post finish-Inv-loop finish-μ-loop
-finish-loop-again t c = ((c .before .before .before .before .before .before .weights3 .given) ∙ (c .before .before .before .before .before .before .before .before .before .before .before .before .before .before .before .before .before .before .before .weights2 .given) ∙ (c .before .before .before .before .before .before .before .before .before .before .before .before .before .before .before .before .before .before .before .before .before .before .loop .inv .0), (let h = (low-slot (c .before .before .before .before .before .before .before .before .before .before .before .before .before .before .before .before .if3 .left) (c .before .before .before .before .before .before .before .before .before .before .before .before .before .before .before .before .before .before .before .before .before .before .before .before .before .before .before .before .before .before .before .before .before .before .before .before .before .before .before .pre .1 .1 .1)) in omega arith), held-next (next-lot (c .before .before .before .before .before .before .before .before .before .before .before .before .before .before .before .before .before .before .before .before .before .before .before .before .before .before .before .before .before .before .before .before .before .before .before .before .before .before .before .pre .1 .0) (c .before .before .before .before .before .before .before .before .before .before .before .before .before .before .before .before .before .before .before .before .before .before .before .before .before .before .before .before .before .before .before .before .before .before .before .before .before .before .before .pre .1 .1 .0) (c .before .before .before .before .before .before .before .before .before .before .before .before .before .before .before .before .before .before .before .before .before .before .before .before .before .before .if2 .left)) (c .before .before .before .before .before .before .before .before .before .before .before .before .before .before .before .before .before .before .before .before .pick-slot .ensures) (low-slot (c .before .before .before .before .before .before .before .before .before .before .before .before .before .before .before .before .if3 .left) (c .before .before .before .before .before .before .before .before .before .before .before .before .before .before .before .before .before .before .before .before .before .before .before .before .before .before .before .before .before .before .before .before .before .before .before .before .before .before .before .pre .1 .1 .1)) (c .before .before .before .before .before .before .before .before .before .before .choose .result .0) (c .before .before .before .before .before .before .before .finish .result .order) (rw (c .before .before .before .before .if4 .left) at (c .before .before .before .before .before .before .before .finish .ensures .answer)) _ (c .merged .ensures))
+finish-loop-again t c = ((c .before .before .before .before .before .before .tally4 .given) ∙ (c .before .before .before .before .before .before .before .before .before .before .before .before .before .before .before .before .before .before .before .tally3 .given) ∙ (c .before .before .before .before .before .before .before .before .before .before .before .before .before .before .before .before .before .before .before .before .before .before .loop .inv .0), (let h = (low-slot (c .before .before .before .before .before .before .before .before .before .before .before .before .before .before .before .before .if3 .left) (c .before .before .before .before .before .before .before .before .before .before .before .before .before .before .before .before .before .before .before .before .before .before .before .before .before .before .before .before .before .before .before .before .before .before .before .before .before .before .before .before .before .before .before .pre .1 .1 .1 .1)) in omega arith), held-next (next-lot (c .before .before .before .before .before .before .before .before .before .before .before .before .before .before .before .before .before .before .before .before .before .before .before .before .before .before .before .before .before .before .before .before .before .before .before .before .before .before .before .before .before .before .before .pre .1 .1 .0) (c .before .before .before .before .before .before .before .before .before .before .before .before .before .before .before .before .before .before .before .before .before .before .before .before .before .before .before .before .before .before .before .before .before .before .before .before .before .before .before .before .before .before .before .pre .1 .1 .1 .0) (c .before .before .before .before .before .before .before .before .before .before .before .before .before .before .before .before .before .before .before .before .before .before .before .before .before .before .if2 .left)) (c .before .before .before .before .before .before .before .before .before .before .before .before .before .before .before .before .before .before .before .before .pick-slot .ensures) (low-slot (c .before .before .before .before .before .before .before .before .before .before .before .before .before .before .before .before .if3 .left) (c .before .before .before .before .before .before .before .before .before .before .before .before .before .before .before .before .before .before .before .before .before .before .before .before .before .before .before .before .before .before .before .before .before .before .before .before .before .before .before .before .before .before .before .pre .1 .1 .1 .1)) (c .before .before .before .before .before .before .before .before .before .before .choose .result .0) (c .before .before .before .before .before .before .before .finish .result .order) (rw (c .before .before .before .before .if4 .left) at (c .before .before .before .before .before .before .before .finish .ensures .answer)) _ (c .merged .ensures))
 
 pub +finish-spec : {M : Type 1} → statement M
 +finish-spec = close μ-finish λ t. finish-lts.spec (callees t)
@@ -167,20 +167,20 @@ pub +finish-spec : {M : Type 1} → statement M
     finish.Post
     finish-Inv-loop
     finish-μ-loop
-    (finish-slice-aggregate-all-safe t)
-    (finish-all-safe-requires t)
-    (finish-heavier-lost-requires t)
-    (finish-why-unsafe-requires t)
+    (finish-count-one-requires t)
+    (finish-judge-requires t)
+    (finish-count-lost-requires t)
     (finish-same-length t)
     (finish-returns t)
     (finish-cast-if2 t)
+    (finish-same-length-2 t)
     (finish-returns-2 t)
     (finish-slice-aggregate-blamed t)
     (finish-word-of-requires t)
     (finish-blamed-requires t)
     (finish-loop-holds t)
     (finish-pick-slot-requires t)
-    (finish-same-length-2 t)
+    (finish-same-length-3 t)
     (finish-returns-3 t)
     (finish-cast-with t)
     (finish-array-write-with t)
@@ -189,11 +189,11 @@ pub +finish-spec : {M : Type 1} → statement M
     (finish-choose-requires t)
     (finish-slice-aggregate-finish t)
     (finish-finish-requires t)
-    (finish-same-length-3 t)
+    (finish-same-length-4 t)
     (finish-returns-4 t)
     (finish-cast-if5 t)
     (finish-array-read-if5 t)
-    (finish-same-length-4 t)
+    (finish-same-length-5 t)
     (finish-returns-5 t)
     (finish-merged-requires t)
     (finish-add-from t)

@@ -4,7 +4,7 @@ use mathlib.Core.Path.{sym, _∙_}
 use native.Mathlib.Omega.{arith}
 use lib.Count.{ones-le}
 use borrow.Author.Needs.{needs}
-use Rattle.finish.proofs.Tests.{best-over, best-kept, best-here, product-small}
+use Rattle.finish.proofs.Next.{best-over, best-kept, best-here, product-small}
 use Rattle.finish.proofs.better.Statement.{statement}
 use Rattle.finish.proofs.better.Tie as tie
 
@@ -20,8 +20,8 @@ word-of-requires c κs = search needs
 cast-left : tie.Need-cast-left
 cast-left c = search needs
 
-word-of-requires-2 : tie.Need-word-of-requires-2
-word-of-requires-2 c κs = search needs
+weight-of-requires : tie.Need-weight-of-requires
+weight-of-requires c κs = search needs
 
 cast-if2 : tie.Need-cast-if2
 cast-if2 c = search needs
@@ -61,7 +61,7 @@ better-spec =
     returns
     word-of-requires
     cast-left
-    word-of-requires-2
+    weight-of-requires
     cast-if2
     returns-2
     cast-if3

@@ -4,7 +4,7 @@ use Prim.Native.Nat.{_-_, _≤_}
 use native.Mathlib.Omega.{arith}
 use borrow.Author.Needs.{needs}
 use Rattle.finish.specs.Search.{Best}
-use Rattle.finish.proofs.Tests.{best-start, best-all}
+use Rattle.finish.proofs.Next.{best-start, best-all}
 use Rattle.finish.proofs.choose.Statement.{statement}
 use Rattle.finish.proofs.choose.Tie as tie
 

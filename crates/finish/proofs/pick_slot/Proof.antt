@@ -14,16 +14,16 @@ use Rattle.finish.proofs.pick_slot.Statement.{statement}
 use Rattle.finish.proofs.pick_slot.Tie as tie
 
 abbrev Inv-loop : tie.InvT-loop
-Inv-loop numbers domain loss give ties words weights₀ x order own met₀ why₀ v here q₀ weights met why q = (length weights ≡ length weights₀) × (q ≤ numbers .n) × Fed (week numbers domain loss give ties) order words (x .0) here q met × Held (week numbers domain loss give ties) order words (x .0) here why
+Inv-loop numbers domain loss give ties words tally₀ x order own met₀ why₀ v here q₀ tally met why q = (length tally ≡ length tally₀) × (q ≤ numbers .n) × Fed (week numbers domain loss give ties) order words (x .0) here q met × Held (week numbers domain loss give ties) order words (x .0) here why
 
 abbrev μ-loop : tie.MeasureT-loop
-μ-loop numbers domain loss give ties words weights₀ x order own met₀ why₀ v here q₀ weights met why q = numbers .n - q
+μ-loop numbers domain loss give ties words tally₀ x order own met₀ why₀ v here q₀ tally met why q = numbers .n - q
 
 abbrev Inv-slots : tie.InvT-slots
-Inv-slots numbers domain loss give ties words weights₀ x order own met₀ why₀ v₀ weights met why v = (length weights ≡ length weights₀) × (length met ≡ 24) × (v₀ ≤ v) × Held (week numbers domain loss give ties) order words (x .0) v why
+Inv-slots numbers domain loss give ties words tally₀ x order own met₀ why₀ v₀ tally met why v = (length tally ≡ length tally₀) × (length met ≡ 24) × (v₀ ≤ v) × Held (week numbers domain loss give ties) order words (x .0) v why
 
 abbrev μ-slots : tie.MeasureT-slots
-μ-slots numbers domain loss give ties words weights₀ x order own met₀ why₀ v₀ weights met why v = 16 - v
+μ-slots numbers domain loss give ties words tally₀ x order own met₀ why₀ v₀ tally met why v = 16 - v
 
 word-of-requires : tie.Need-word-of-requires Inv-loop μ-loop Inv-slots μ-slots
 word-of-requires c κs = search needs
@@ -97,14 +97,14 @@ blamed-requires c κs = starved-bound (c .before .before .before .before .before
 merged-requires : tie.Need-merged-requires Inv-loop μ-loop Inv-slots μ-slots
 merged-requires c κs = ((c .before .before .before .before .before .before .before .before .before .before .loop .inv .3 .size), (c .blamed .ensures .size))
 
-heavier-requires : tie.Need-heavier-requires Inv-loop μ-loop Inv-slots μ-slots
-heavier-requires c κs = search needs
+count-starved-requires : tie.Need-count-starved-requires Inv-loop μ-loop Inv-slots μ-slots
+count-starved-requires c κs = search needs
 
 slots-less-2 : tie.Need-slots-less-2 Inv-loop μ-loop Inv-slots μ-slots
 slots-less-2 c = search needs
 
 slots-again-2 : tie.Need-slots-again-2 Inv-loop μ-loop Inv-slots μ-slots
-slots-again-2 c = ((c .before .weights .given) ∙ (c .before .before .before .before .before .before .before .before .before .before .before .before .before .before .before .loop .inv .0) ∙ (c .before .before .before .before .before .before .before .before .before .before .before .before .before .before .before .before .before .before .before .slots .inv .0), simp length-set (c .before .before .before .before .before .before .before .before .before .before .before .before .before .before .before .loop .inv .2 .made .size), (let h = (c .before .before .before .before .before .before .before .before .before .before .before .before .before .before .before .before .before .before .before .slots .inv .2) in omega arith), starved-held (c .before .before .before .before .before .before .before .before .before .before .before .before .before .before .before .before .before .before .before .before .before .before .before .before .before .before .before .pre .0) (c .before .before .before .before .before .before .before .before .before .before .before .before .before .before .before .before .before .before .if1 .left) (c .before .before .before .before .before .before .before .before .before .before .before .before .before .before .before .loop .inv .3) _ (c .before .before .before .before .before .before .before .before .before .before .before .before .before .if3 .taken) _ _ (c .before .before .before .before .before .blamed .ensures) (c .before .before .before .before .merged .ensures))
+slots-again-2 c = ((c .before .tally .given) ∙ (c .before .before .before .before .before .before .before .before .before .before .before .before .before .before .before .loop .inv .0) ∙ (c .before .before .before .before .before .before .before .before .before .before .before .before .before .before .before .before .before .before .before .slots .inv .0), simp length-set (c .before .before .before .before .before .before .before .before .before .before .before .before .before .before .before .loop .inv .2 .made .size), (let h = (c .before .before .before .before .before .before .before .before .before .before .before .before .before .before .before .before .before .before .before .slots .inv .2) in omega arith), starved-held (c .before .before .before .before .before .before .before .before .before .before .before .before .before .before .before .before .before .before .before .before .before .before .before .before .before .before .before .pre .0) (c .before .before .before .before .before .before .before .before .before .before .before .before .before .before .before .before .before .before .if1 .left) (c .before .before .before .before .before .before .before .before .before .before .before .before .before .before .before .loop .inv .3) _ (c .before .before .before .before .before .before .before .before .before .before .before .before .before .if3 .taken) _ _ (c .before .before .before .before .before .blamed .ensures) (c .before .before .before .before .merged .ensures))
 
 same-length : tie.Need-same-length Inv-loop μ-loop Inv-slots μ-slots
 same-length c = (c .before .slots .inv .0)
@@ -150,7 +150,7 @@ pick-slot-spec =
     slice-aggregate-blamed
     blamed-requires
     merged-requires
-    heavier-requires
+    count-starved-requires
     slots-less-2
     slots-again-2
     same-length

@@ -13,8 +13,8 @@ use borrow.Fn.PlainCycle.{Measures, is, falls, and}
 use Rattle.lex.specs.Every.{count}
 use Rattle.week.specs.Tables.{week}
 use Rattle.repair.specs.Found.{lotsOf}
-use Rattle.parts.specs.Part.{unplaced}
-use Rattle.parts.proofs.Slots.{Above, above-start}
+use Rattle.parts.specs.Part.{unplaced, Above}
+use Rattle.parts.proofs.Slots.{above-start}
 use Rattle.cuts.specs.Reasons.{Later}
 use Rattle.mend.specs.Sets.{minus}
 use Rattle.room.proofs.None.{room-none}

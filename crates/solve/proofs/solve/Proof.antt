@@ -25,8 +25,8 @@ known : (e : E) → Ready (W e) (start e .args .order .now) (start e .args .tabl
 known e = ready (W e) (start e .args .order .now) (start e .args .table .now) (sym (e .before .table-admits .ensures) ∙ e .if1 .left)
 
 -- a super solution was found
-found : (e : tie.Else2) → isFound (firstSuper (W (e .before .before .before))) ≡ true
-found e = sym (e .before .before .find-super .ensures .is) ∙ not-false _ (e .if2 .left)
+found : (e : tie.Else2) → isFound (firstSuper (W (e .before .before .before .before .before))) ≡ true
+found e = sym (e .before .before .before .find-super .ensures .is) ∙ not-false _ (e .if2 .left)
 
 table-admits-requires : tie.Need-table-admits-requires
 table-admits-requires c κs = search needs
@@ -40,8 +40,11 @@ same-length-2 c = search needs
 returns : tie.Need-returns
 returns c = by-tables _ _ _ _ (c .before .table-admits .ensures) (c .if1 .taken)
 
+slice-aggregate-find-super : tie.Need-slice-aggregate-find-super
+slice-aggregate-find-super c = search needs
+
 find-super-requires : tie.Need-find-super-requires
-find-super-requires c κs = known c .fine
+find-super-requires c κs = known (c .before) .fine
 
 same-length-3 : tie.Need-same-length-3
 same-length-3 c = search needs
@@ -50,19 +53,19 @@ same-length-4 : tie.Need-same-length-4
 same-length-4 c = search needs
 
 returns-2 : tie.Need-returns-2
-returns-2 c = by-none _ _ _ (known (c .before .before .before)) (sym (c .before .before .find-super .ensures .is) ∙ not-true _ (c .if2 .taken))
+returns-2 c = by-none _ _ _ (known (c .before .before .before .before .before)) (sym (c .before .before .before .find-super .ensures .is) ∙ not-true _ (c .if2 .taken))
 
 slice-aggregate-copy-slots : tie.Need-slice-aggregate-copy-slots
 slice-aggregate-copy-slots c = search needs
 
 copy-slots-requires : tie.Need-copy-slots-requires
-copy-slots-requires c κs = wide _ _ _ (known (c .before .before .before .before .before .before)) _ (c .before .before .before .before .before .find-super .ensures .slots)
+copy-slots-requires c κs = wide _ _ _ (known (c .before .before .before .before .before .before .before .before)) _ (c .before .before .before .before .before .before .find-super .ensures .slots)
 
 put-rows-requires : tie.Need-put-rows-requires
 put-rows-requires c κs =
     let e = c .before .before .before .before .before .before .before .before in
-    let k = known (e .before .before .before) in
-    (k .fine, (put-size _ _ _ k (found e) _ _ (e .before .before .find-super .ensures .slots) (c .before .before .before .before .copy-slots .ensures), k .room))
+    let k = known (e .before .before .before .before .before) in
+    (k .fine, (put-size _ _ _ k (found e) _ _ (e .before .before .before .find-super .ensures .slots) (c .before .before .before .before .copy-slots .ensures), k .room))
 
 same-length-5 : tie.Need-same-length-5
 same-length-5 c = search needs
@@ -73,7 +76,7 @@ same-length-6 c = search needs
 returns-3 : tie.Need-returns-3
 returns-3 c =
     let e = c .before .before .before .before .before .before .before .before .before .before .before in
-    by-search _ _ _ (known (e .before .before .before)) (found e) _ _ (e .before .before .find-super .ensures .slots) (c .before .before .before .before .before .before .before .copy-slots .ensures) _ (c .before .before .put-rows .ensures)
+    by-search _ _ _ (known (e .before .before .before .before .before)) (found e) _ _ (e .before .before .before .find-super .ensures .slots) (c .before .before .before .before .before .before .before .copy-slots .ensures) _ (c .before .before .put-rows .ensures)
 
 pub solve-spec : {M : Type 1} → statement M
 solve-spec =
@@ -83,6 +86,7 @@ solve-spec =
     same-length
     same-length-2
     returns
+    slice-aggregate-find-super
     find-super-requires
     same-length-3
     same-length-4
