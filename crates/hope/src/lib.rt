@@ -15,7 +15,7 @@ ghost use Rattle.repair.specs.Found.{lotsOf};
 ghost use Rattle.parts.specs.Part.{placed};
 ghost use Rattle.cuts.specs.Cut.{robustOn};
 ghost use Rattle.cuts.specs.Reasons.{None, Why, Struck, Exclusive};
-ghost use Rattle.hope.specs.Blame.{Part, Merged, Bound, Blamed};
+ghost use Rattle.hope.specs.Blame.{Part, Merged, Bound, Blamed, ownGroup, OwnGroups};
 ghost use Rattle.hope.specs.Safe.{Frees, Freed, Paired, risks, SafeSingles, SafePartners, SafePairs, Verdict, Going, Judging, Hopes};
 
 // The lots that a part a of an order places, and those but x of a part b.
@@ -388,6 +388,35 @@ fn is_full(lots: u8, slots: u16) -> bool {
     u32::count_ones(slots as u32) <= lots as u32
 }
 
+// The group of a lot that waits; a placed lot has a number of its own, which is no group's.
+fn own_group(order: &[u8], groups: &[u8], p: Lot) -> u8
+    requires { ⌜ p .0 < 24 ⌝ }
+    ensures { λ r. ⌜ r ≡ ownGroup (now (order .entry)) (now (groups .entry)) (p .0) ⌝ }
+{
+    let g = room::group_of(groups, p).0;
+    if room::is_placed(order, p) {
+        return 24 + p.0;
+    }
+    if 24 <= g {
+        return 24 + p.0;
+    }
+    g
+}
+
+// The groups of the lots that wait beside an order: where fewer lots are placed, room is still asked of these alone.
+fn own_groups(n: u32, order: &[u8], groups: &[u8]) -> [u8; 24]
+    requires { ⌜ n ≤ 24 ⌝ }
+    ensures { λ r. ⌜ OwnGroups (now (order .entry)) (now (groups .entry)) n r ⌝ }
+{
+    let mut own = [0u8; 24];
+    let mut p: u8 = 0;
+    while (p as u32) < n {
+        own[p as usize] = own_group(order, groups, Lot(p));
+        p += 1;
+    }
+    own
+}
+
 // Why an order in which a group has too little room can not be finished: the lots that take its slots, if they alone leave too little; else the order.
 fn why_crowded(
     numbers: Numbers,
@@ -404,7 +433,8 @@ fn why_crowded(
 {
     let part = pressed(numbers, domain, loss, give, ties, &order, words, groups);
     let left = room::words_of(numbers.n, domain, ties, &part);
-    if room::slack(numbers.n, &part, &left, groups) != 0 {
+    let own = own_groups(numbers.n, &order, groups);
+    if room::slack(numbers.n, &part, &left, &own) != 0 {
         return order;
     }
     part
@@ -480,6 +510,7 @@ fn why_cramped(
         return order;
     }
     let left = room::words_of(numbers.n, domain, ties, &part);
+    let own = own_groups(numbers.n, &order, groups);
     let mended = mend::has_roomy_repair(
         numbers,
         domain,
@@ -488,7 +519,7 @@ fn why_cramped(
         ties,
         &part,
         &left,
-        groups,
+        &own,
         found.lost,
     );
     if mended.is {

@@ -1,11 +1,12 @@
 -- `hope::why_cramped` meets its contract: the part is asked whether it alone has the break and no repair with room.
 -- Assumes nothing.
-use mathlib.Core.Path.{refl, sym, _∙_}
-use native.Mathlib.Omega.{arith}
-use borrow.Author.Needs.{needs}
-use borrow.Author.Tests.{not-true, not-false}
+use mathlib.Core.Path.{sym, _∙_}
+use Rattle.week.specs.Tables.{week}
 use Rattle.week.proofs.Tables.{accepted}
 use Rattle.room.proofs.Words.{words-forward}
+use borrow.Author.Needs.{needs}
+use borrow.Author.Tests.{not-false}
+use Rattle.hope.proofs.Own.{own-exclusive}
 use Rattle.hope.proofs.Safe.{going-few, struck-part, why-part, why-whole, part-fewer, part-merged}
 use Rattle.hope.proofs.why_cramped.Statement.{statement}
 use Rattle.hope.proofs.why_cramped.Tie as tie
@@ -37,20 +38,29 @@ slice-aggregate-words-of c = sym (c .before .before .before .before .merged .ens
 words-of-requires : tie.Need-words-of-requires
 words-of-requires c κs = going-few (c .before .before .before .before .before .before .before .before .before .before .before .before .before .before .pre .0)
 
+slice-aggregate-own-groups : tie.Need-slice-aggregate-own-groups
+slice-aggregate-own-groups c = sym (c .before .before .before .before .before .before .before .before .before .before .before .before .before .before .before .before .pre .0 .size)
+
+own-groups-requires : tie.Need-own-groups-requires
+own-groups-requires c κs = going-few (c .before .before .before .before .before .before .before .before .before .before .before .before .before .before .before .before .pre .0)
+
 slice-aggregate-has-roomy-repair : tie.Need-slice-aggregate-has-roomy-repair
-slice-aggregate-has-roomy-repair c = sym (c .before .before .before .before .before .before .merged .ensures .size)
+slice-aggregate-has-roomy-repair c = sym (c .before .before .before .before .before .before .before .before .merged .ensures .size)
 
 slice-aggregate-has-roomy-repair-2 : tie.Need-slice-aggregate-has-roomy-repair-2
-slice-aggregate-has-roomy-repair-2 c = sym (c .before .before .words-of .ensures .size)
+slice-aggregate-has-roomy-repair-2 c = sym (c .before .before .before .before .words-of .ensures .size)
+
+slice-aggregate-has-roomy-repair-3 : tie.Need-slice-aggregate-has-roomy-repair-3
+slice-aggregate-has-roomy-repair-3 c = sym (c .before .before .before .own-groups .ensures .size)
 
 has-roomy-repair-requires : tie.Need-has-roomy-repair-requires
-has-roomy-repair-requires c κs = let s = c .before .before .before .before .before .before .before .before .before .before .before .before .before .before .before .before .before in (struck-part _ _ _ _ (s .pre .1 .1 .0) (part-merged (going-few (c .before .before .before .before .before .before .before .before .before .before .before .before .before .before .before .before .before .pre .0)) (part-fewer (going-few (c .before .before .before .before .before .before .before .before .before .before .before .before .before .before .before .before .before .pre .0)) (c .before .before .before .before .before .before .before .before .before .before .narrowed .ensures)) (c .before .before .before .before .before .before .before .before .pressed .ensures) (c .before .before .before .before .before .before .before .merged .ensures)) (sym (c .before .before .before .before .before .is-break .ensures) ∙ not-false _ (c .before .before .before .before .if1 .left)), record { forward = words-forward _ _ _ (accepted _ (s .pre .0 .fine) .symmetric) (c .before .before .words-of .ensures); exclusive = s .pre .1 .0 })
+has-roomy-repair-requires c κs = let s = c .before .before .before .before .before .before .before .before .before .before .before .before .before .before .before .before .before .before .before .before in (struck-part _ _ _ _ (s .pre .1 .1 .0) (part-merged (going-few (c .before .before .before .before .before .before .before .before .before .before .before .before .before .before .before .before .before .before .before .before .pre .0)) (part-fewer (going-few (c .before .before .before .before .before .before .before .before .before .before .before .before .before .before .before .before .before .before .before .before .pre .0)) (c .before .before .before .before .before .before .before .before .before .before .before .before .before .narrowed .ensures)) (c .before .before .before .before .before .before .before .before .before .before .before .pressed .ensures) (c .before .before .before .before .before .before .before .before .before .before .merged .ensures)) (sym (c .before .before .before .before .before .before .before .before .is-break .ensures) ∙ not-false _ (c .before .before .before .before .before .before .before .if1 .left)), record { forward = words-forward _ _ _ (accepted _ (s .pre .0 .fine) .symmetric) (c .before .before .before .before .before .words-of .ensures); exclusive = own-exclusive (week (s .args .numbers) (s .args .domain .now) (s .args .loss .now) (s .args .give .now) (s .args .ties .now)) _ _ _ (s .pre .1 .0) (c .before .before .before .own-groups .ensures) })
 
 returns-2 : tie.Need-returns-2
-returns-2 c = (c .before .before .before .before .before .before .before .before .before .before .before .before .before .before .before .before .before .before .before .pre .0 .size, why-whole _ _ (c .before .before .before .before .before .before .before .before .before .before .before .before .before .before .before .before .before .before .before .pre .1 .1 .1))
+returns-2 c = (c .before .before .before .before .before .before .before .before .before .before .before .before .before .before .before .before .before .before .before .before .before .before .pre .0 .size, why-whole _ _ (c .before .before .before .before .before .before .before .before .before .before .before .before .before .before .before .before .before .before .before .before .before .before .pre .1 .1 .1))
 
 returns-3 : tie.Need-returns-3
-returns-3 c = (c .before .before .before .before .before .before .before .before .before .merged .ensures .size, why-part _ _ _ (part-merged (going-few (c .before .before .before .before .before .before .before .before .before .before .before .before .before .before .before .before .before .before .before .pre .0)) (part-fewer (going-few (c .before .before .before .before .before .before .before .before .before .before .before .before .before .before .before .before .before .before .before .pre .0)) (c .before .before .before .before .before .before .before .before .before .before .before .before .narrowed .ensures)) (c .before .before .before .before .before .before .before .before .before .before .pressed .ensures) (c .before .before .before .before .before .before .before .before .before .merged .ensures)) (rw (c .if2 .left) at (c .before .has-roomy-repair .ensures)))
+returns-3 c = (c .before .before .before .before .before .before .before .before .before .before .before .before .merged .ensures .size, why-part _ _ _ (part-merged (going-few (c .before .before .before .before .before .before .before .before .before .before .before .before .before .before .before .before .before .before .before .before .before .before .pre .0)) (part-fewer (going-few (c .before .before .before .before .before .before .before .before .before .before .before .before .before .before .before .before .before .before .before .before .before .before .pre .0)) (c .before .before .before .before .before .before .before .before .before .before .before .before .before .before .before .narrowed .ensures)) (c .before .before .before .before .before .before .before .before .before .before .before .before .before .pressed .ensures) (c .before .before .before .before .before .before .before .before .before .before .before .before .merged .ensures)) (rw (c .if2 .left) at (c .before .has-roomy-repair .ensures)))
 
 pub why-cramped-spec : {M : Type 1} → statement M
 why-cramped-spec =
@@ -65,8 +75,11 @@ why-cramped-spec =
     returns
     slice-aggregate-words-of
     words-of-requires
+    slice-aggregate-own-groups
+    own-groups-requires
     slice-aggregate-has-roomy-repair
     slice-aggregate-has-roomy-repair-2
+    slice-aggregate-has-roomy-repair-3
     has-roomy-repair-requires
     returns-2
     returns-3)
