@@ -1,9 +1,9 @@
 -- A loss repaired at once: each lost lot goes to a slot that is left to it beside all placed lots, two lost lots to slots that may stand together, and no
 -- other lot moves. Assumes nothing.
-use mathlib.Core.Path.{_≡_, refl, sym, _∙_, ap}
-use mathlib.Core.Bool.{Bool, true, false, _&&_, _||_, not, cond, and-false}
+use mathlib.Core.Path.{_≡_, refl, sym, _∙_}
+use mathlib.Core.Bool.{Bool, true, false, _&&_, _||_, cond}
 use mathlib.Core.List.{List}
-use Prim.Native.Nat.{ℕ, zero, suc, _≤_, _<_}
+use Prim.Native.Nat.{ℕ, zero, suc, _<_}
 use native.Mathlib.Decide.{decLt, ℕ-discrete}
 use native.Mathlib.Omega.{arith}
 use lib.Dec.{eqb}
@@ -12,7 +12,6 @@ use borrow.Author.Tests.{ltb-true, lt-ltb, le-ltb, eq-eqb, ne-eqb}
 use Rattle.lex.specs.Every.{count}
 use Rattle.lex.specs.Lists.{listOf}
 use Rattle.lex.proofs.Dictionary.{under-all}
-use Rattle.lex.proofs.Every.{both, and-left, and-right}
 use Rattle.lex.proofs.Lists.{length-list, list-at}
 use Rattle.week.specs.Rules.{Rules, inDomain, together}
 use Rattle.week.proofs.Rules.{Symmetric, domain-below}

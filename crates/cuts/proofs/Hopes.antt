@@ -1,7 +1,7 @@
 -- The search of `parts` with the test `hopes` decides whether a super solution extends a partial order; and lot by lot it comes to the first one.
 -- The tables may be any: what is needed and what is enough is read off pair by pair, both ways. Assumes nothing.
 use mathlib.Core.Path.{_≡_, refl, sym, _∙_, ap}
-use mathlib.Core.Bool.{Bool, true, false, _&&_, not, or-true}
+use mathlib.Core.Bool.{Bool, true, false, not, or-true}
 use mathlib.Core.Logic.{_≢_}
 use mathlib.Core.List.{List}
 use mathlib.Core.Option.{Option, none, some}

@@ -2,24 +2,23 @@
 -- more placed lots holds beside fewer. Assumes nothing.
 use mathlib.Core.Path.{_≡_, refl, sym, _∙_, ap}
 use mathlib.Core.Bool.{Bool, true, false, _&&_, not}
-use mathlib.Core.List.{List, []}
-use Prim.Native.Nat.{ℕ, _≤_, _<_}
+use mathlib.Core.List.{List}
+use Prim.Native.Nat.{ℕ, _<_}
 use native.Mathlib.Decide.{decLt, ℕ-discrete}
 use native.Mathlib.Omega.{arith}
 use lib.ListN.{getD}
-use borrow.Author.Tests.{ltb-true, lt-ltb, not-true, not-false}
-use Rattle.lex.specs.Every.{imp, every, everyOf}
-use Rattle.lex.proofs.Every.{both, and-right, not-both, same-truth, imp-out, every-true, every-at, every-miss, everyOf-imp}
+use borrow.Author.Tests.{lt-ltb, not-true, not-false}
+use Rattle.lex.specs.Every.{every, everyOf}
+use Rattle.lex.proofs.Every.{both, and-right, not-both, same-truth, every-true, every-at, every-miss, everyOf-imp}
 use Rattle.week.specs.Rules.{Rules, bitOf, together}
 use Rattle.week.specs.Tables.{Week, lots, pairRules}
 use Rattle.week.proofs.Words.{bit-zero, bit-below}
-use Rattle.repair.specs.Break.{breaks, rowCount}
-use Rattle.robust.specs.Super.{rowSets}
+use Rattle.repair.specs.Break.{breaks}
 use Rattle.parts.specs.Part.{placed, Extends}
-use Rattle.cuts.specs.Cut.{whole, mendedOn, breaksOn, safeOn, robustOn}
-use Rattle.cuts.specs.Hopes.{isLeft, any, lives, alive, Supers}
-use Rattle.cuts.specs.Reasons.{None, asked, Struck}
-use Rattle.cuts.proofs.Cut.{robust-whole, robust-shrink, robust-rows, safe-free, safe-mended}
+use Rattle.cuts.specs.Cut.{whole, mendedOn, breaksOn, safeOn}
+use Rattle.cuts.specs.Hopes.{isLeft, any, lives, alive}
+use Rattle.cuts.specs.Reasons.{None, asked}
+use Rattle.cuts.proofs.Cut.{safe-free, safe-mended}
 use Rattle.cuts.proofs.Hopes.{any-hit, suits-self, suits-free, suits-with, suits-make, suits-read, left-domain, left-suits, left-order, lives-here, lives-free}
 
 -- Fewer placed lots: r is a part of s
@@ -78,15 +77,3 @@ module _ (W : Week) where
   -- no slot is left to lot p
   pub starved-none : (r : List ℕ) (p : ℕ) → p < lots W → ((v : ℕ) → isLeft (pairRules W) r p v ≡ true → bitOf 0 v ≡ true) → None W r
   starved-none r p l h u q e = not-both (h (getD u p 0) (left-order (pairRules W) r u (q .len) (q .good) e p l)) (bit-zero (getD u p 0))
-
-  -- the lots of A, a break, have no partial repair
-  pub unmended-none : (s A : List ℕ) → Struck W s A → mendedOn (pairRules W) (asked W s A) (placed 16 s) ≡ false → None W s
-  unfolding safeOn
-  unmended-none s A c f u q e =
-      not-both (imp-out (breaksOn (W .loss) (placed 16 s) s A) (mendedOn (pairRules W) (asked W s A) (placed 16 s)) here (sym (breaks-placed (W .loss) s A) ∙ c .broken)) f
-    where
-      robust : robustOn W (placed 16 s) s ≡ true
-      robust = robust-shrink W (placed 16 s) whole s u (λ p l o. (refl, e p l (ltb-true (getD s p 0) 16 o))) (robust-whole W u ∙ q .final)
-
-      here : safeOn W (placed 16 s) s A ≡ true
-      here = ap (safeOn W (placed 16 s) s) (c .set) ∙ every-at (λ j. safeOn W (placed 16 s) s (getD (rowSets W) j [])) (rowCount (lots W) (W .numbers .a)) (c .row) (robust-rows W (placed 16 s) s ∙ robust) (c .low)

@@ -1,28 +1,26 @@
--- Partial repairs by forced moves: where no lot is left that has to move, the test `may` is enough. So the search of `parts` with this test, which takes next
--- any lot that has to move, decides whether there is a partial repair. Assumes nothing.
+-- Partial repairs by forced moves: where no lot is left that has to move, the test `may` is enough. Assumes nothing.
 use mathlib.Core.Path.{_≡_, refl, sym, _∙_, ap}
 use mathlib.Core.Bool.{Bool, true, false, _&&_, cond}
 use mathlib.Core.List.{List}
 use Prim.Native.Nat.{ℕ, _≤_, _<_}
 use native.Mathlib.Decide.{decLt}
 use native.Mathlib.Omega.{arith}
-use lib.ListN.{length, getD, set}
+use lib.ListN.{length, getD}
 use borrow.Author.Tests.{lt-ltb, le-ltb}
 use Rattle.lex.specs.Lists.{listOf}
 use Rattle.lex.proofs.Dictionary.{under-all}
-use Rattle.lex.proofs.Every.{both, and-left, and-right, false-of, not-both, same-truth}
+use Rattle.lex.proofs.Every.{both, and-left, and-right, not-both}
 use Rattle.lex.proofs.Lists.{length-list, list-at}
 use Rattle.week.specs.Rules.{Rules, together}
 use Rattle.week.proofs.Rules.{Symmetric, domain-below}
 use Rattle.repair.specs.Repair.{Case, isLost, moves}
-use Rattle.parts.specs.Part.{placed, Empty, Decides}
-use Rattle.parts.proofs.Turn.{Turn, turn-none}
-use Rattle.cuts.specs.Cut.{RepairsOn, mendedOn}
+use Rattle.parts.specs.Part.{placed}
+use Rattle.cuts.specs.Cut.{mendedOn}
 use Rattle.cuts.specs.Hopes.{suitsOn}
 use Rattle.cuts.specs.Moves.{calm, uses, may, Settled}
-use Rattle.cuts.proofs.Cut.{KeepsOn, keepsOn-make, count-fewer, MendsOn, mendsOn-make, mended-read, mended-make}
+use Rattle.cuts.proofs.Cut.{KeepsOn, keepsOn-make, count-fewer, MendsOn, mendsOn-make, mended-make}
 use Rattle.cuts.proofs.Hopes.{suits-read}
-use Rattle.cuts.proofs.Moves.{stays, still, sound-decided, uses-decided, at-rest, Lands, lands-read, sound-at, few-uses, may-needed}
+use Rattle.cuts.proofs.Moves.{stays, still, sound-decided, uses-decided, at-rest, Lands, lands-read, sound-at, few-uses}
 
 -- where lot p goes; 0 where it is not on
 unfoldable to : Case → List ℕ → ℕ → ℕ
@@ -111,27 +109,3 @@ module _ (R : Rules) (C : Case) (on : ℕ → Bool) (mirror : Symmetric R) (stan
   -- on a symmetric tie table, and where the lots that are on keep the rules as they stand
   pub settled-mended : mendedOn R C on ≡ true
   settled-mended = mended-make R C on goal (record { len = long; under = under-all goal (λ p l. rw (at p (in-week l)) (to-under C m p)); good = mendsOn-make R C on goal goal-mends; final = refl })
-
--- The search: its answers are those of `mendedOn`
-
-module _ (R : Rules) (C : Case) (on : ℕ → Bool) where
-  -- the start m, where no lot is decided, has no order to extend it
-  pub none-mended : (m o : List ℕ) → Empty (R .lots) 16 m → Decides (RepairsOn R C on) (R .lots) 16 m false o → mendedOn R C on ≡ false
-  none-mended m o h f = false-of (mendedOn R C on) (λ t. let r = mended-read R C on t in f (r .0) (r .1) (λ p l g. absurd (let a = h p l in omega arith)))
-
-  -- no lot has to move at the start
-  pub start-mended : (m : List ℕ) → Symmetric R → KeepsOn R on (R .lots) (C .stands) → Empty (R .lots) 16 m → Settled R C on m → mendedOn R C on ≡ may R C on m
-  start-mended m mirror stand h s =
-      same-truth (mendedOn R C on) (may R C on m)
-      (λ t. let r = mended-read R C on t in may-needed R C on .needed m (r .0) (r .1) (λ p l g. absurd (let a = h p l in omega arith)))
-      (λ e. settled-mended R C on mirror stand m e s)
-
-  -- a turn of the loop, at the lot of level d: `from` is the start, m what is decided
-  module _ {from m levels slots : List ℕ} {d v r : ℕ} (c : Turn (RepairsOn R C on) (R .lots) 16 (may R C on) from m levels slots d v r) where
-    -- a slot was found, and no lot is left that has to move
-    pub turn-mended : Symmetric R → KeepsOn R on (R .lots) (C .stands) → r < 16 → Settled R C on (set m (getD levels d 0) r) → mendedOn R C on ≡ true
-    turn-mended mirror stand h s = settled-mended R C on mirror stand (set m (getD levels d 0) r) (c .picked .hit h) s
-
-    -- none was found on the first level
-    pub turn-unmended : Empty (R .lots) 16 from → 16 ≤ r → d ≡ 0 → mendedOn R C on ≡ false
-    turn-unmended h l e = none-mended from from h (turn-none c l from e)

@@ -13,7 +13,7 @@ use lib.ListN.{length, getD, set}
 use lib.Seq.{getD-set-same, getD-set-other}
 use borrow.Author.Tests.{eqb-true, eq-eqb, ne-eqb, le-ltb, not-true, not-false}
 use Rattle.lex.specs.Every.{imp, every}
-use Rattle.lex.proofs.Every.{both, and-left, and-right, not-both, same-truth, imp-in, every-true, every-at, every-false, every-miss}
+use Rattle.lex.proofs.Every.{both, and-left, and-right, not-both, same-truth, imp-in, every-true, every-at, every-miss}
 use Rattle.week.specs.Rules.{Rules, bitOf, inside, inDomain, tieWord, together}
 use Rattle.week.proofs.Rules.{Symmetric}
 use Rattle.week.proofs.Words.{bit-and, bit-zero, inside-and}

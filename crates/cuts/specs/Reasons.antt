@@ -3,7 +3,7 @@
 use mathlib.Core.Path.{_≡_}
 use mathlib.Core.Bool.{Bool, true, false, _&&_}
 use mathlib.Core.List.{List, []}
-use Prim.Native.Nat.{ℕ, _+_, _≤_, _<_}
+use Prim.Native.Nat.{ℕ, _+_, _<_}
 use lib.ListN.{getD}
 use Rattle.lex.specs.Every.{count}
 use Rattle.lex.specs.First.{Passes, always}
@@ -14,7 +14,7 @@ use Rattle.repair.specs.Repair.{Case, case, moves, mends}
 use Rattle.robust.specs.Super.{rowSets}
 use Rattle.parts.specs.Part.{placed, Extends}
 use Rattle.cuts.specs.Cut.{mendedOn}
-use Rattle.cuts.specs.Hopes.{Forward, alive, Supers}
+use Rattle.cuts.specs.Hopes.{alive, Supers}
 
 -- no super solution extends s
 abbrev pub None : Week → List ℕ → Type 0

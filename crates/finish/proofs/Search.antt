@@ -1,6 +1,6 @@
 -- The search, way by way: the slots of one lot, each of which fails for a part of the order or leads on, and what is answered. Assumes nothing.
 use mathlib.Core.Path.{_≡_, refl, sym, _∙_, ap}
-use mathlib.Core.Bool.{Bool, true, false, not}
+use mathlib.Core.Bool.{true, false, not}
 use mathlib.Core.List.{List}
 use Prim.Native.Nat.{ℕ, _+_, _^_, _≤_, _<_}
 use native.Mathlib.Decide.{decLt, ℕ-discrete}
@@ -14,7 +14,7 @@ use Rattle.week.specs.Rules.{bitOf}
 use Rattle.week.specs.Tables.{Week, lots, pairRules}
 use Rattle.week.proofs.Rules.{Symmetric}
 use Rattle.week.proofs.Tables.{accepted}
-use Rattle.parts.specs.Part.{placed, unplaced, Extends, Full, Above, Merges, Least}
+use Rattle.parts.specs.Part.{placed, unplaced, Extends, Full, Least}
 use Rattle.parts.proofs.Part.{extends-unset, count-place}
 use Rattle.parts.proofs.Reason.{extends-trans, extends-apart, Join, merged-part, merged-more, merged-above}
 use Rattle.cuts.specs.Cut.{robustOn}

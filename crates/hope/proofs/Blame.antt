@@ -1,7 +1,7 @@
 -- Reasons as the code makes them: parts of an order, merged, cut down to some lots, or made of the lots that take slots from one lot. A law for each turn of a
 -- loop. Assumes nothing.
 use mathlib.Core.Path.{_≡_, refl, sym, _∙_, ap}
-use mathlib.Core.Bool.{Bool, true, false, _&&_, not}
+use mathlib.Core.Bool.{Bool, true, false, not}
 use mathlib.Core.List.{List}
 use Prim.Native.Nat.{ℕ, _+_, _≤_, _<_}
 use native.Mathlib.Decide.{decLt, ℕ-discrete}

@@ -9,14 +9,14 @@ use native.Mathlib.Decide.{decLt, ℕ-discrete}
 use native.Mathlib.Omega.{arith}
 use lib.Bits.{bitAnd, bitOr, and-lt}
 use lib.Dec.{eqb, ltb, leb}
-use lib.ListN.{length, getD, set, replicate, length-set}
+use lib.ListN.{getD, set, replicate, length-set}
 use lib.Seq.{getD-set-same, getD-set-other}
 use borrow.Author.Tests.{ltb-true, lt-ltb, leb-true, le-leb, eqb-true, eqb-false, ne-eqb, not-true}
 use Rattle.lex.specs.Every.{imp, every, everyOf, someOf}
 use Rattle.lex.proofs.Every.{both, and-left, and-right, not-both, imp-in, imp-out, every-at}
 use Rattle.week.specs.declared.Numbers.{Numbers}
 use Rattle.week.specs.Rules.{bitOf, tieWord, together}
-use Rattle.week.specs.Tables.{Week, lots, pairRules, refusal}
+use Rattle.week.specs.Tables.{Week, lots, pairRules}
 use Rattle.week.proofs.Tables.{accepted}
 use Rattle.week.proofs.Words.{bit-and, bit-or, bit-zero, bit-below}
 use Rattle.repair.specs.declared.Lost.{Lost}
@@ -29,7 +29,7 @@ use Rattle.parts.specs.Part.{placed}
 use Rattle.cuts.specs.Cut.{mendedOn, safeOn, robustOn}
 use Rattle.cuts.specs.Hopes.{isLeft}
 use Rattle.cuts.specs.Reasons.{None, Why, asked, Struck}
-use Rattle.cuts.proofs.Free.{Free, free-mended}
+use Rattle.cuts.proofs.Free.{free-mended}
 use Rattle.cuts.proofs.Reasons.{safe-whole, safe-repaired, alive-part}
 use Rattle.cuts.proofs.Words.{word-some}
 use Rattle.hope.specs.Blame.{Part, Merged, Bound, Blamed}

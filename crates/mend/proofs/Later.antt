@@ -9,7 +9,7 @@ use native.Mathlib.Omega.{arith}
 use lib.Dec.{eqb, ltb}
 use lib.ListN.{length, getD}
 use borrow.Author.Tests.{ltb-true, lt-ltb, eqb-true}
-use Rattle.lex.specs.Every.{every, everyOf, someOf}
+use Rattle.lex.specs.Every.{everyOf, someOf}
 use Rattle.lex.specs.First.{isFound}
 use Rattle.lex.proofs.Every.{both, and-left, and-right, not-both, imp-out, every-at}
 use Rattle.week.specs.Rules.{bitOf}

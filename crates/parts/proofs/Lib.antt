@@ -1,6 +1,4 @@
 pub mod Part
 pub mod Slots
 pub mod Outer
-pub mod Search
-pub mod Turn
 pub mod Reason

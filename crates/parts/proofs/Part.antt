@@ -1,7 +1,7 @@
--- Laws of partial orders: what one more placed lot changes, how many lots are not placed, that a test decides where every lot is, and what other tests do.
+-- Laws of partial orders: what one more placed lot changes, how many lots are not placed, and what other tests do.
 -- Assumes nothing.
-use mathlib.Core.Path.{_≡_, refl, sym, _∙_, ap}
-use mathlib.Core.Bool.{Bool, true, false, _&&_}
+use mathlib.Core.Path.{_≡_, sym, _∙_, ap}
+use mathlib.Core.Bool.{Bool, true, _&&_}
 use mathlib.Core.Logic.{_≢_}
 use mathlib.Core.List.{List}
 use Prim.Native.Nat.{ℕ, zero, suc, _+_, _≤_, _<_}
@@ -11,8 +11,8 @@ use lib.ListN.{length, getD, set}
 use lib.Seq.{getD-set-same, getD-set-other}
 use borrow.Author.Tests.{lt-ltb, le-ltb}
 use Rattle.lex.specs.Every.{oneIf, count}
-use Rattle.lex.proofs.Every.{both, and-left, not-both, oneIf-le, count-cong}
-use Rattle.parts.specs.Part.{unplaced, Extends, Full, Needed, Tested, Decides}
+use Rattle.lex.proofs.Every.{both, and-left, oneIf-le, count-cong}
+use Rattle.parts.specs.Part.{unplaced, Extends, Full, Needed, Tested}
 
 -- One more lot
 
@@ -67,11 +67,6 @@ count-some (suc n) k s p h g = elim (decLt p n) [
   | yes l ↦ let a = count-some n k s p l g in omega arith
   | no l ↦ let e : n ≡ p = omega arith in rw (e, le-ltb (getD s p 0) k g) (omega arith)
 ]
-
--- Where every lot is placed, the test decides
-pub decides-full : {Q : List ℕ → Type 0} {n k : ℕ} {ok : List ℕ → Bool} → Tested Q n k ok → (s : List ℕ) → n ≤ length s → Full n k s → (is : Bool) → is ≡ ok s → Decides Q n k s is s
-decides-full t s h f true e = (t .exact s h f (sym e), λ p l m. refl)
-decides-full t s h f false e = λ u q x. not-both (t .must .needed s u q x) (sym e)
 
 -- Other tests
 

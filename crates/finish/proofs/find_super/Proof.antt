@@ -7,7 +7,7 @@ use lib.ListN.{length}
 use borrow.Author.Needs.{needs}
 use borrow.Author.Tests.{not-true, not-false}
 use Rattle.lex.specs.Lists.{padded}
-use Rattle.week.specs.Tables.{Week, week}
+use Rattle.week.specs.Tables.{week}
 use Rattle.week.proofs.Tables.{accepted}
 use Rattle.room.proofs.Grouped.{grouped-exclusive}
 use Rattle.finish.proofs.First.{going-start, first-none, Outer, outer-start, outer-known, outer-next, outer-step, outer-found, outer-padded}

@@ -1,8 +1,6 @@
 -- `hope::all_safe` meets its contract: the losses of one lot and of two are judged.
 -- Assumes nothing.
 use mathlib.Core.Path.{sym}
-use native.Mathlib.Omega.{arith}
-use borrow.Author.Needs.{needs}
 use borrow.Author.Tests.{not-true, not-false}
 use Rattle.week.proofs.Tables.{accepted}
 use Rattle.hope.proofs.Safe.{robust-none, robust-ones, verdict-all}

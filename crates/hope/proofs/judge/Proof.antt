@@ -1,8 +1,6 @@
 -- `hope::judge` meets its contract: each test in its turn.
 -- Assumes nothing.
-use mathlib.Core.Path.{refl, sym, _∙_}
-use native.Mathlib.Omega.{arith}
-use borrow.Author.Needs.{needs}
+use mathlib.Core.Path.{sym, _∙_}
 use borrow.Author.Tests.{not-true, not-false}
 use Rattle.room.proofs.None.{slack-none}
 use Rattle.hope.proofs.Safe.{going-few}

@@ -1,6 +1,6 @@
 -- `hope::pairs_safe` meets its contract: the losses of two lots, of which one is passed, are safe.
 -- Assumes nothing.
-use mathlib.Core.Path.{refl, sym, _∙_}
+use mathlib.Core.Path.{sym, _∙_}
 use Prim.Native.Nat.{_-_, _≤_}
 use native.Mathlib.Omega.{arith}
 use borrow.Author.Needs.{needs}

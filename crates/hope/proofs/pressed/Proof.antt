@@ -1,11 +1,9 @@
 -- `hope::pressed` meets its contract: parts of the order are merged.
 -- Assumes nothing.
-use mathlib.Core.Path.{_≡_, sym}
 use Prim.Native.Nat.{_-_, _≤_}
 use native.Mathlib.Omega.{arith}
 use lib.ListN.{getD}
 use borrow.Author.Needs.{needs}
-use borrow.Author.Tests.{not-true, not-false}
 use Rattle.hope.specs.Blame.{Part}
 use Rattle.hope.proofs.Blame.{part-start}
 use Rattle.hope.proofs.Safe.{part-fewer, part-merged, going-few, pressed-bound}

@@ -2,7 +2,7 @@
 -- Assumes nothing.
 use mathlib.Core.Path.{sym, _∙_}
 use borrow.Author.Needs.{needs}
-use borrow.Author.Tests.{not-true, not-false}
+use borrow.Author.Tests.{not-false}
 use Rattle.week.proofs.Tables.{accepted}
 use Rattle.hope.proofs.Safe.{struck-part, why-part, why-whole, part-fewer}
 use Rattle.hope.proofs.why_unsafe.Statement.{statement}
