@@ -23,7 +23,6 @@ use Rattle.cuts.specs.Reasons.{None, Why}
 use Rattle.cuts.proofs.Hopes.{left-order, supers-under, hopes-tested}
 use Rattle.cuts.proofs.Reasons.{left-part, starved-none}
 use Rattle.cuts.proofs.Words.{alive-place, lives-word}
-use Rattle.finish.specs.declared.Picked.{Picked}
 use Rattle.room.specs.Words.{metWord, Made}
 use Rattle.hope.specs.Blame.{Merged, Bound, Blamed}
 use Rattle.hope.specs.Safe.{Going}
@@ -148,12 +147,9 @@ module _ {W : Week} {s words : List ℕ} {x : ℕ} (c : Next W s words x) where
 
   -- What is answered
 
-  module _ {from : ℕ} {f : Picked} (p : Picks W s words x from f) where
-    abbrev slot : ℕ
-    slot = f .slot
-
+  module _ {from slot : ℕ} {why met : List ℕ} (p : Picks W s words x from slot why met) where
     -- no slot below `most` is left
-    pub answer-none : (most : ℕ) → most ≤ slot → Answers W s x most false (f .why)
+    pub answer-none : (most : ℕ) → most ≤ slot → Answers W s x most false why
     answer-none most h = (p .held .part, λ u q e. (c .lot, let a = p .held .above u q e in omega arith))
 
     -- lot y, or none, is next
@@ -163,7 +159,7 @@ module _ {W : Week} {s words : List ℕ} {x : ℕ} (c : Next W s words x) where
 
       pub answer-next : (y : ℕ) (t : List ℕ) (most : ℕ) → Answers W (set s x slot) y 16 true t → Answers W s x most true t
       answer-next y t most a =
-          ((a .0 .0, extends-unset (lots W) 16 s x slot (c .idle) t (a .0 .1)), λ l u q e. let b = p .held .above u q (extends-trans (lots W) 16 (f .why) s u (p .held .part) e) in rw (← there) b)
+          ((a .0 .0, extends-unset (lots W) 16 s x slot (c .idle) t (a .0 .1)), λ l u q e. let b = p .held .above u q (extends-trans (lots W) 16 why s u (p .held .part) e) in rw (← there) b)
         where
           there : slot ≡ getD t x 0
           there = let e = getD-set-same s x slot 0 inside in sym (a .0 .1 x (c .lot) (rw e low) ∙ e)
@@ -177,7 +173,7 @@ module _ {W : Week} {s words : List ℕ} {x : ℕ} (c : Next W s words x) where
         pub answer-jump : (most : ℕ) → 16 ≤ getD t x 0 → Answers W s x most false t
         answer-jump most h = (extends-apart (lots W) 16 s t x slot h (a .0), λ u q e. absurd (none u q e))
 
-        pub held-next : (m : List ℕ) → Merged (f .why) t x m → Held W s words x (slot + 1) m
+        pub held-next : (m : List ℕ) → Merged why t x m → Held W s words x (slot + 1) m
         held-next m g = held-merge (p .held) t m (a .0) none g
 
   -- a super solution is known already

@@ -10,7 +10,6 @@ use Rattle.week.specs.Tables.{Week, lots, pairRules}
 use Rattle.parts.specs.Part.{Extends, Decides, Above}
 use Rattle.cuts.specs.Hopes.{isLeft, Supers}
 use Rattle.hope.specs.Safe.{Going}
-use Rattle.finish.specs.declared.Picked.{Picked}
 use Rattle.finish.specs.declared.Tried.{Tried}
 
 -- of the q first lots, `best` is one that s does not place, any one; n where it places all
@@ -32,18 +31,23 @@ pub record Held (W : Week) (s words : List ℕ) (x v : ℕ) (r : List ℕ) : Typ
   pub bound : (w : ℕ) → isLeft (pairRules W) r x w ≡ true → bitOf (getD words x 0) w ≡ true
   pub above : Above (Supers W) (lots W) 16 r x v
 
--- a slot from `from` on, or none; with lot x there each lot still has a slot
-pub record Picks (W : Week) (s words : List ℕ) (x from : ℕ) (f : Picked) : Type 0 where
-  pub held : Held W s words x (f .slot) (f .why)
-  pub low : f .slot < 16 → from ≤ f .slot
-  pub wide : f .slot < 16 → length (f .words) ≡ 24
-  pub next : f .slot < 16 → Going W (set s x (f .slot)) (f .words)
+-- slot v, from `from` on, or none: `why` is why those before it fail, and with lot x there each lot still has a slot, those of `met`
+pub record Picks (W : Week) (s words : List ℕ) (x from v : ℕ) (why met : List ℕ) : Type 0 where
+  pub held : Held W s words x v why
+  pub wide : length met ≡ 24
+  pub low : v < 16 → from ≤ v
+  pub next : v < 16 → Going W (set s x v) met
 
 -- t is a super solution that extends s, and none has a smaller slot for lot x; or t, a part of s, rules out those with a slot below `most` for it.
 -- Where x is no lot it may be left out: s places every lot.
 abbrev pub Answers : Week → List ℕ → ℕ → ℕ → Bool → List ℕ → Type 0
 Answers W s x most true t = Decides (Supers W) (lots W) 16 s true t × (x < lots W → Above (Supers W) (lots W) 16 s x (getD t x 0))
 Answers W s x most false t = Extends (lots W) 16 t s × ((u : List ℕ) → Supers W u → Extends (lots W) 16 t u → (x < lots W) × (most ≤ getD u x 0))
+
+-- r is why s can not be finished; or it answers where x is no lot, and where x is one no slot of it has failed yet for r
+abbrev pub Starts : Week → List ℕ → List ℕ → ℕ → Bool → List ℕ → Type 0
+Starts W s words x true r = ((most : ℕ) → lots W ≤ x → Answers W s x most true r) × (x < lots W → Held W s words x 0 r)
+Starts W s words x false r = (most : ℕ) → Answers W s x most false r
 
 pub record Finished (W : Week) (s : List ℕ) (x most : ℕ) (f : Tried) : Type 0 where
   pub size : length (f .order) ≡ 24

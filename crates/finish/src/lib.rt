@@ -19,7 +19,7 @@ ghost use Rattle.parts.specs.Part.{Least};
 ghost use Rattle.cuts.specs.Hopes.{Supers};
 ghost use Rattle.cuts.specs.Reasons.{Exclusive};
 ghost use Rattle.hope.specs.Safe.{Going};
-ghost use Rattle.finish.specs.Search.{Best, Next, Held, Picks, Finished, Known};
+ghost use Rattle.finish.specs.Search.{Best, Next, Held, Picks, Starts, Finished, Known};
 
 // One more in a place of the tally; no number gets over 4294967295.
 fn count_one(tally: &mut [u32], place: u8) {
@@ -114,14 +114,8 @@ fn choose(n: u32, order: &[u8], words: &[u16], tally: &[u32]) -> Lot
     Lot(best.lot)
 }
 
-// A slot that is tried, the forward words with the lot there, and why the slots before it fail.
-struct Picked {
-    slot: u8,
-    words: [u16; 24],
-    why: [u8; 24],
-}
-
-// The first slot of lot x from `from` on that leaves a slot to each lot, 16 or more where there is none; `why` is why the slots before fail.
+// The first slot of lot x from `from` on that leaves a slot to each lot, 16 or more where there is none. `met` becomes the forward words with the lot there,
+// and `why` what the slots before it fail for.
 fn pick_slot(
     numbers: Numbers,
     domain: &[u16],
@@ -133,14 +127,13 @@ fn pick_slot(
     tally: &mut [u32],
     x: Lot,
     from: Slot,
-    why: [u8; 24],
-) -> Picked
-    requires { ⌜ Next (week numbers (now domain) (now loss) (now give) (now ties)) order (now words) (x .0) × Held (week numbers (now domain) (now loss) (now give) (now ties)) order (now words) (x .0) (from .0) why ⌝ }
-    ensures { λ r. ⌜ Picks (week numbers (now (domain .entry)) (now (loss .entry)) (now (give .entry)) (now (ties .entry))) order (now (words .entry)) (x .0) (from .0) r ⌝ }
+    why: &mut [u8],
+    met: &mut [u16],
+) -> Slot
+    requires { ⌜ Next (week numbers (now domain) (now loss) (now give) (now ties)) order (now words) (x .0) × Held (week numbers (now domain) (now loss) (now give) (now ties)) order (now words) (x .0) (from .0) (now why) × (length (now met) ≡ 24) ⌝ }
+    ensures { λ r. ⌜ Picks (week numbers (now (domain .entry)) (now (loss .entry)) (now (give .entry)) (now (ties .entry))) order (now (words .entry)) (x .0) (from .0) (r .0) (now (why .exit)) (now (met .exit)) ⌝ }
 {
     let own = week::word_of(words, x);
-    let mut met = [0u16; 24];
-    let mut why = why;
     let mut v = from.0;
     let chosen = 'slots: loop {
         if 16 <= v {
@@ -166,24 +159,56 @@ fn pick_slot(
             let mut with = order;
             with[x.0 as usize] = here;
             let starved = hope::blamed(numbers.n, domain, ties, &with, lot, 0);
-            let more = hope::merged(why, starved, x);
-            why = more;
+            hope::merge(why, &starved, x);
             count_starved(tally, lot);
             continue 'slots;
         }
         break here;
     };
-    Picked {
-        slot: chosen,
-        words: met,
-        why,
-    }
+    Slot(chosen)
 }
 
 // A super solution, or a part of an order: why there is none.
 struct Tried {
     is: bool,
     order: [u8; 24],
+}
+
+// One more partial order is judged: why it can not be finished, the order itself where x is no lot, or else why lot x has no slots but those of its word.
+fn start(
+    numbers: Numbers,
+    domain: &[u16],
+    loss: &[u16],
+    give: &[u16],
+    ties: &[u16],
+    order: [u8; 24],
+    words: &[u16],
+    groups: &[u8],
+    tally: &mut [u32],
+    x: Lot,
+) -> Tried
+    requires { ⌜ Exclusive (week numbers (now domain) (now loss) (now give) (now ties)) (now groups) × (Going (week numbers (now domain) (now loss) (now give) (now ties)) order (now words) × Best (numbers .n) order (numbers .n) (x .0)) ⌝ }
+    ensures { λ r. ⌜ (length (r .order) ≡ 24) × Starts (week numbers (now (domain .entry)) (now (loss .entry)) (now (give .entry)) (now (ties .entry))) order (now (words .entry)) (x .0) (r .is) (r .order) ⌝ }
+{
+    count_one(tally, 24);
+    let judged = hope::judge(numbers, domain, loss, give, ties, order, words, groups);
+    if !judged.is {
+        let lost = judged.lost;
+        let part = judged.why;
+        count_lost(tally, lost);
+        return Tried {
+            is: false,
+            order: part,
+        };
+    }
+    if numbers.n <= x.0 as u32 {
+        return Tried { is: true, order };
+    }
+    let own = hope::blamed(numbers.n, domain, ties, &order, x, week::word_of(words, x));
+    Tried {
+        is: true,
+        order: own,
+    }
 }
 
 // Of the super solutions that extend a partial order, one with the least slot for lot x, if that is below `most`; else a part of the order that rules
@@ -204,24 +229,18 @@ fn finish(
     requires { ⌜ Exclusive (week numbers (now domain) (now loss) (now give) (now ties)) (now groups) × (Going (week numbers (now domain) (now loss) (now give) (now ties)) order (now words) × (Best (numbers .n) order (numbers .n) (x .0) × (most ≤ 16))) ⌝ }
     ensures { λ r. ⌜ Finished (week numbers (now (domain .entry)) (now (loss .entry)) (now (give .entry)) (now (ties .entry))) order (x .0) most r ⌝ }
 {
-    count_one(tally, 24);
-    let judged = hope::judge(numbers, domain, loss, give, ties, order, words, groups);
-    if !judged.is {
-        let lost = judged.lost;
-        let part = judged.why;
-        count_lost(tally, lost);
-        return Tried {
-            is: false,
-            order: part,
-        };
+    let first = start(numbers, domain, loss, give, ties, order, words, groups, tally, x);
+    if !first.is {
+        return first;
     }
     if numbers.n <= x.0 as u32 {
-        return Tried { is: true, order };
+        return first;
     }
-    let mut why = hope::blamed(numbers.n, domain, ties, &order, x, week::word_of(words, x));
+    let mut why = first.order;
+    let mut met = [0u16; 24];
     let mut from: u8 = 0;
     loop {
-        let picked = pick_slot(
+        let chosen = pick_slot(
             numbers,
             domain,
             loss,
@@ -232,17 +251,16 @@ fn finish(
             tally,
             x,
             Slot(from),
-            why,
+            &mut why,
+            &mut met,
         );
-        let v = picked.slot;
-        let failed = picked.why;
+        let v = chosen.0;
         if most <= v {
             return Tried {
                 is: false,
-                order: failed,
+                order: why,
             };
         }
-        let met = picked.words;
         let mut with = order;
         with[x.0 as usize] = v;
         let y = choose(numbers.n, &with, &met, tally);
@@ -266,8 +284,7 @@ fn finish(
         if 16 <= reason[x.0 as usize] {
             return tried;
         }
-        let more = hope::merged(failed, reason, x);
-        why = more;
+        hope::merge(&mut why, &reason, x);
         from = v + 1;
     }
 }

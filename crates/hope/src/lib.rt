@@ -18,24 +18,32 @@ ghost use Rattle.cuts.specs.Reasons.{None, Why, Struck, Exclusive};
 ghost use Rattle.hope.specs.Blame.{Part, Merged, Bound, Blamed, ownGroup, OwnGroups};
 ghost use Rattle.hope.specs.Safe.{Frees, Freed, Paired, risks, SafeSingles, SafePartners, SafePairs, Verdict, Going, Judging, Hopes};
 
-// The lots that a part a of an order places, and those but x of a part b.
-pub fn merged(a: [u8; 24], b: [u8; 24], x: Lot) -> [u8; 24]
-    requires { ⌜ (length a ≡ 24) × (length b ≡ 24) ⌝ }
-    ensures { λ r. ⌜ Merged a b (x .0) r ⌝ }
+// To the lots that a part of an order places, those but x of another part.
+pub fn merge(part: &mut [u8], more: &[u8], x: Lot)
+    requires { ⌜ (length (now part) ≡ 24) × (length (now more) ≡ 24) ⌝ }
+    ensures { λ _. ⌜ Merged (now (part .entry)) (now (more .entry)) (x .0) (now (part .exit)) ⌝ }
 {
-    let mut both = a;
     let mut p: u8 = 0;
     while p < 24 {
         let at = p as usize;
         p += 1;
-        if both[at] < 16 {
+        if part[at] < 16 {
             continue;
         }
         if at == x.0 as usize {
             continue;
         }
-        both[at] = b[at];
+        part[at] = more[at];
     }
+}
+
+// The lots that a part a of an order places, and those but x of a part b.
+fn merged(a: [u8; 24], b: [u8; 24], x: Lot) -> [u8; 24]
+    requires { ⌜ (length a ≡ 24) × (length b ≡ 24) ⌝ }
+    ensures { λ r. ⌜ Merged a b (x .0) r ⌝ }
+{
+    let mut both = a;
+    merge(&mut both, &b, x);
     both
 }
 
