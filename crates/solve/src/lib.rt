@@ -131,6 +131,22 @@ pub fn solve(
     0
 }
 
+// How many partial orders the search of a week tries, for a benchmark alone; 0 where the tables are refused.
+pub fn tried(numbers: Numbers, domain: &[u16], loss: &[u16], give: &[u16], ties: &[u16]) -> u32
+    ensures { λ r. ⌜ ((refusal (week numbers (now (domain .entry)) (now (loss .entry)) (now (give .entry)) (now (ties .entry))) ≡ 0 → ⊥) → r ≡ 0) ⌝ }
+{
+    if tables::judge(numbers, domain, loss, give, ties) != 0 {
+        return 0;
+    }
+    let mut tally = [1u32; 25];
+    finish::find_super(numbers, domain, loss, give, ties, &mut tally);
+    let all = tally[24];
+    if all < 1 {
+        return all;
+    }
+    all - 1
+}
+
 // Whether a row is the order, slot by slot. Both have at most 24.
 fn is_order(row: &[u8], order: &[u8]) -> bool
     requires { ⌜ (length (now row) ≡ length (now order)) × (length (now order) ≤ 24) ⌝ }
