@@ -229,7 +229,18 @@ fn finish(
     requires { ⌜ Exclusive (week numbers (now domain) (now loss) (now give) (now ties)) (now groups) × (Going (week numbers (now domain) (now loss) (now give) (now ties)) order (now words) × (Best (numbers .n) order (numbers .n) (x .0) × (most ≤ 16))) ⌝ }
     ensures { λ r. ⌜ Finished (week numbers (now (domain .entry)) (now (loss .entry)) (now (give .entry)) (now (ties .entry))) order (x .0) most r ⌝ }
 {
-    let first = start(numbers, domain, loss, give, ties, order, words, groups, tally, x);
+    let first = start(
+        numbers,
+        domain,
+        loss,
+        give,
+        ties,
+        order,
+        words,
+        groups,
+        tally,
+        x,
+    );
     if !first.is {
         return first;
     }
@@ -280,11 +291,10 @@ fn finish(
         if tried.is {
             return tried;
         }
-        let reason = tried.order;
-        if 16 <= reason[x.0 as usize] {
+        if 16 <= tried.order[x.0 as usize] {
             return tried;
         }
-        hope::merge(&mut why, &reason, x);
+        hope::merge(&mut why, &tried.order, x);
         from = v + 1;
     }
 }

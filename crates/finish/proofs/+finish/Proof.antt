@@ -119,8 +119,8 @@ finish-returns-4 t c = record { size = (c .before .before .before .finish .ensur
 finish-cast-if5 : (t : ℕ) → finish-lts.Need-cast-if5 (callees t) (finish-at t) finish.Post finish-Inv-loop finish-μ-loop
 finish-cast-if5 t c = search needs
 
-finish-array-read-if5 : (t : ℕ) → finish-lts.Need-array-read-if5 (callees t) (finish-at t) finish.Post finish-Inv-loop finish-μ-loop
-finish-array-read-if5 t c = omega (arith, (c .before .before .before .before .before .finish .ensures .size), week-few (next-lot (c .before .before .before .before .before .before .before .before .before .before .before .before .before .before .before .before .before .before .before .before .before .before .before .before .before .before .before .before .before .before .before .before .before .before .before .before .before .before .before .before .pre .1 .1 .0) (c .before .before .before .before .before .before .before .before .before .before .before .before .before .before .before .before .before .before .before .before .before .before .before .before .before .before .before .before .before .before .before .before .before .before .before .before .before .before .before .before .pre .1 .1 .1 .0) (c .before .before .before .before .before .before .before .before .before .before .before .before .before .before .before .before .before .before .before .before .before .before .before .before .if2 .left)), (c .before .before .before .before .before .before .before .before .before .before .before .before .before .before .before .before .before .before .before .before .before .before .before .before .if2 .left))
+finish-element-copy-out-if5 : (t : ℕ) → finish-lts.Need-element-copy-out-if5 (callees t) (finish-at t) finish.Post finish-Inv-loop finish-μ-loop
+finish-element-copy-out-if5 t c = omega (arith, (c .before .before .before .before .finish .ensures .size), week-few (next-lot (c .before .before .before .before .before .before .before .before .before .before .before .before .before .before .before .before .before .before .before .before .before .before .before .before .before .before .before .before .before .before .before .before .before .before .before .before .before .before .before .pre .1 .1 .0) (c .before .before .before .before .before .before .before .before .before .before .before .before .before .before .before .before .before .before .before .before .before .before .before .before .before .before .before .before .before .before .before .before .before .before .before .before .before .before .before .pre .1 .1 .1 .0) (c .before .before .before .before .before .before .before .before .before .before .before .before .before .before .before .before .before .before .before .before .before .before .before .if2 .left)), (c .before .before .before .before .before .before .before .before .before .before .before .before .before .before .before .before .before .before .before .before .before .before .before .if2 .left))
 
 finish-same-length-5 : (t : ℕ) → finish-lts.Need-same-length-5 (callees t) (finish-at t) finish.Post finish-Inv-loop finish-μ-loop
 finish-same-length-5 t c = c .before .before .before .before .before .tally3 .given ∙ c .before .before .before .before .before .before .before .before .before .before .before .before .before .before .before .before .before .before .tally2 .given ∙ c .before .before .before .before .before .before .before .before .before .before .before .before .before .before .before .before .before .before .before .before .before .before .before .loop .inv .0 ∙ c .before .before .before .before .before .before .before .before .before .before .before .before .before .before .before .before .before .before .before .before .before .before .before .before .before .before .before .before .before .before .before .tally .given
@@ -131,20 +131,17 @@ finish-returns-5 t c = record { size = (c .before .before .before .before .befor
 finish-slice-aggregate-merge : (t : ℕ) → finish-lts.Need-slice-aggregate-merge (callees t) (finish-at t) finish.Post finish-Inv-loop finish-μ-loop
 finish-slice-aggregate-merge t c = sym (c .before .before .before .before .before .before .before .before .before .before .before .before .before .before .before .before .before .before .before .before .pick-slot .ensures .held .size)
 
-finish-slice-aggregate-merge-2 : (t : ℕ) → finish-lts.Need-slice-aggregate-merge-2 (callees t) (finish-at t) finish.Post finish-Inv-loop finish-μ-loop
-finish-slice-aggregate-merge-2 t c = sym (c .before .before .before .before .before .before .before .before .finish .ensures .size)
-
 finish-merge-requires : (t : ℕ) → finish-lts.Need-merge-requires (callees t) (finish-at t) finish.Post finish-Inv-loop finish-μ-loop
-finish-merge-requires t c κs = ((c .before .before .before .before .before .before .before .before .before .before .before .before .before .before .before .before .before .before .before .before .before .pick-slot .ensures .held .size), (c .before .before .before .before .before .before .before .before .finish .ensures .size))
+finish-merge-requires t c κs = ((c .before .before .before .before .before .before .before .before .before .before .before .before .before .before .before .before .before .before .before .before .before .before .before .pick-slot .ensures .held .size), (c .before .before .before .before .before .before .before .before .before .before .finish .ensures .size))
 
 finish-add-from : (t : ℕ) → finish-lts.Need-add-from (callees t) (finish-at t) finish.Post finish-Inv-loop finish-μ-loop
-finish-add-from t c = omega (arith, (low-slot (c .before .before .before .before .before .before .before .before .before .before .before .before .before .before .before .before .before .before .if3 .left) (c .before .before .before .before .before .before .before .before .before .before .before .before .before .before .before .before .before .before .before .before .before .before .before .before .before .before .before .before .before .before .before .before .before .before .before .before .before .before .before .before .before .before .before .before .before .pre .1 .1 .1 .1)))
+finish-add-from t c = omega (arith, (low-slot (c .before .before .before .before .before .before .before .before .before .before .before .before .before .before .before .before .before .before .before .before .if3 .left) (c .before .before .before .before .before .before .before .before .before .before .before .before .before .before .before .before .before .before .before .before .before .before .before .before .before .before .before .before .before .before .before .before .before .before .before .before .before .before .before .before .before .before .before .before .before .before .before .pre .1 .1 .1 .1)))
 
 finish-loop-less : (t : ℕ) → finish-lts.Need-loop-less (callees t) (finish-at t) finish.Post finish-Inv-loop finish-μ-loop
-finish-loop-less t c = let l = (c .before .before .before .before .before .before .before .before .before .before .before .before .before .before .before .before .before .before .before .before .before .before .before .pick-slot .ensures .low) (low-slot (c .before .before .before .before .before .before .before .before .before .before .before .before .before .before .before .before .before .before .if3 .left) (c .before .before .before .before .before .before .before .before .before .before .before .before .before .before .before .before .before .before .before .before .before .before .before .before .before .before .before .before .before .before .before .before .before .before .before .before .before .before .before .before .before .before .before .before .before .pre .1 .1 .1 .1)) in let h = (low-slot (c .before .before .before .before .before .before .before .before .before .before .before .before .before .before .before .before .before .before .if3 .left) (c .before .before .before .before .before .before .before .before .before .before .before .before .before .before .before .before .before .before .before .before .before .before .before .before .before .before .before .before .before .before .before .before .before .before .before .before .before .before .before .before .before .before .before .before .before .pre .1 .1 .1 .1)) in omega arith
+finish-loop-less t c = let l = (c .before .before .before .before .before .before .before .before .before .before .before .before .before .before .before .before .before .before .before .before .before .before .before .before .before .pick-slot .ensures .low) (low-slot (c .before .before .before .before .before .before .before .before .before .before .before .before .before .before .before .before .before .before .before .before .if3 .left) (c .before .before .before .before .before .before .before .before .before .before .before .before .before .before .before .before .before .before .before .before .before .before .before .before .before .before .before .before .before .before .before .before .before .before .before .before .before .before .before .before .before .before .before .before .before .before .before .pre .1 .1 .1 .1)) in let h = (low-slot (c .before .before .before .before .before .before .before .before .before .before .before .before .before .before .before .before .before .before .before .before .if3 .left) (c .before .before .before .before .before .before .before .before .before .before .before .before .before .before .before .before .before .before .before .before .before .before .before .before .before .before .before .before .before .before .before .before .before .before .before .before .before .before .before .before .before .before .before .before .before .before .before .pre .1 .1 .1 .1)) in omega arith
 
 finish-loop-again : (t : ℕ) → finish-lts.Need-loop-again (callees t) (finish-at t) finish.Post finish-Inv-loop finish-μ-loop
-finish-loop-again t c = (c .before .before .before .before .before .before .before .before .before .tally3 .given ∙ c .before .before .before .before .before .before .before .before .before .before .before .before .before .before .before .before .before .before .before .before .before .before .tally2 .given ∙ c .before .before .before .before .before .before .before .before .before .before .before .before .before .before .before .before .before .before .before .before .before .before .before .before .before .before .before .loop .inv .0, (let h = (low-slot (c .before .before .before .before .before .before .before .before .before .before .before .before .before .before .before .before .before .before .if3 .left) (c .before .before .before .before .before .before .before .before .before .before .before .before .before .before .before .before .before .before .before .before .before .before .before .before .before .before .before .before .before .before .before .before .before .before .before .before .before .before .before .before .before .before .before .before .before .pre .1 .1 .1 .1)) in omega arith), (c .before .before .before .before .before .before .before .before .before .before .before .before .before .before .before .before .before .before .before .before .before .before .before .pick-slot .ensures .wide), held-next (next-lot (c .before .before .before .before .before .before .before .before .before .before .before .before .before .before .before .before .before .before .before .before .before .before .before .before .before .before .before .before .before .before .before .before .before .before .before .before .before .before .before .before .before .before .before .before .before .pre .1 .1 .0) (c .before .before .before .before .before .before .before .before .before .before .before .before .before .before .before .before .before .before .before .before .before .before .before .before .before .before .before .before .before .before .before .before .before .before .before .before .before .before .before .before .before .before .before .before .before .pre .1 .1 .1 .0) (c .before .before .before .before .before .before .before .before .before .before .before .before .before .before .before .before .before .before .before .before .before .before .before .before .before .before .before .before .before .if2 .left)) (c .before .before .before .before .before .before .before .before .before .before .before .before .before .before .before .before .before .before .before .before .before .before .before .pick-slot .ensures) (low-slot (c .before .before .before .before .before .before .before .before .before .before .before .before .before .before .before .before .before .before .if3 .left) (c .before .before .before .before .before .before .before .before .before .before .before .before .before .before .before .before .before .before .before .before .before .before .before .before .before .before .before .before .before .before .before .before .before .before .before .before .before .before .before .before .before .before .before .before .before .pre .1 .1 .1 .1)) (c .before .before .before .before .before .before .before .before .before .before .before .before .before .choose .result .0) (c .before .before .before .before .before .before .before .before .before .before .finish .result .order) (rw (c .before .before .before .before .before .before .before .if4 .left) at (c .before .before .before .before .before .before .before .before .before .before .finish .ensures .answer)) _ (c .before .merge .ensures))
+finish-loop-again t c = (c .before .before .before .before .before .before .before .before .before .before .before .tally3 .given ∙ c .before .before .before .before .before .before .before .before .before .before .before .before .before .before .before .before .before .before .before .before .before .before .before .before .tally2 .given ∙ c .before .before .before .before .before .before .before .before .before .before .before .before .before .before .before .before .before .before .before .before .before .before .before .before .before .before .before .before .before .loop .inv .0, (let h = (low-slot (c .before .before .before .before .before .before .before .before .before .before .before .before .before .before .before .before .before .before .before .before .if3 .left) (c .before .before .before .before .before .before .before .before .before .before .before .before .before .before .before .before .before .before .before .before .before .before .before .before .before .before .before .before .before .before .before .before .before .before .before .before .before .before .before .before .before .before .before .before .before .before .before .pre .1 .1 .1 .1)) in omega arith), (c .before .before .before .before .before .before .before .before .before .before .before .before .before .before .before .before .before .before .before .before .before .before .before .before .before .pick-slot .ensures .wide), held-next (next-lot (c .before .before .before .before .before .before .before .before .before .before .before .before .before .before .before .before .before .before .before .before .before .before .before .before .before .before .before .before .before .before .before .before .before .before .before .before .before .before .before .before .before .before .before .before .before .before .before .pre .1 .1 .0) (c .before .before .before .before .before .before .before .before .before .before .before .before .before .before .before .before .before .before .before .before .before .before .before .before .before .before .before .before .before .before .before .before .before .before .before .before .before .before .before .before .before .before .before .before .before .before .before .pre .1 .1 .1 .0) (c .before .before .before .before .before .before .before .before .before .before .before .before .before .before .before .before .before .before .before .before .before .before .before .before .before .before .before .before .before .before .before .if2 .left)) (c .before .before .before .before .before .before .before .before .before .before .before .before .before .before .before .before .before .before .before .before .before .before .before .before .before .pick-slot .ensures) (low-slot (c .before .before .before .before .before .before .before .before .before .before .before .before .before .before .before .before .before .before .before .before .if3 .left) (c .before .before .before .before .before .before .before .before .before .before .before .before .before .before .before .before .before .before .before .before .before .before .before .before .before .before .before .before .before .before .before .before .before .before .before .before .before .before .before .before .before .before .before .before .before .before .before .pre .1 .1 .1 .1)) (c .before .before .before .before .before .before .before .before .before .before .before .before .before .before .before .choose .result .0) (c .before .before .before .before .before .before .before .before .before .before .before .before .finish .result .order) (rw (c .before .before .before .before .before .before .before .before .before .if4 .left) at (c .before .before .before .before .before .before .before .before .before .before .before .before .finish .ensures .answer)) _ (c .before .merge .ensures))
 
 pub +finish-spec : {M : Type 1} → statement M
 +finish-spec = close μ-finish λ t. finish-lts.spec (callees t)
@@ -174,11 +171,10 @@ pub +finish-spec : {M : Type 1} → statement M
     (finish-same-length-4 t)
     (finish-returns-4 t)
     (finish-cast-if5 t)
-    (finish-array-read-if5 t)
+    (finish-element-copy-out-if5 t)
     (finish-same-length-5 t)
     (finish-returns-5 t)
     (finish-slice-aggregate-merge t)
-    (finish-slice-aggregate-merge-2 t)
     (finish-merge-requires t)
     (finish-add-from t)
     (finish-loop-less t)
