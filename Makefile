@@ -3,8 +3,9 @@
 # make lib                proves the C interface and writes its archive, target/staticlib/libelurkantza.a
 # make example            builds examples/two_desks.c against it, and runs it on a sample week
 # make plan WEEK=path, make example WEEK=path    on another block file
+# make bench              prints what solve costs, beside a plain C program of the same search and beside CaDiCaL (docs/performance.md)
 # make test-long SEED=..  holds the library against the second program for longer: ten times the weeks, histories and files
-.PHONY: test test-long plan lib example
+.PHONY: test test-long plan lib example bench
 WEEK ?= weeks/f_10.blk
 
 test:
@@ -22,3 +23,6 @@ lib:
 
 example:
 	@bin/example "$(WEEK)"
+
+bench:
+	@bench/run

@@ -115,8 +115,7 @@ void week_copy(struct week *to, const struct week *from)
     memcpy(to->ties, from->ties, from->ties_len * sizeof *to->ties);
 }
 
-/* Lets every two lots stand together in all slots of their domains. */
-static void untie(struct week *week)
+void week_untie(struct week *week)
 {
     for (uint32_t p = 0; p < week->n; p++)
         for (uint32_t q = 0; q < week->n; q++)
@@ -130,7 +129,7 @@ void week_plain(struct week *week, uint32_t n, uint32_t a, uint32_t b, uint16_t 
     for (uint32_t p = 0; p < n; p++)
         week->domain[p] = week->loss[p] = week->give[p] = domain;
     set_lengths(week);
-    untie(week);
+    week_untie(week);
 }
 
 void week_forbid(struct week *week, uint32_t p, uint8_t v, uint32_t q, uint8_t w)
@@ -246,7 +245,7 @@ void week_small(struct chance *chance, struct week *week)
     some_numbers(chance, week);
     set_lengths(week);
     small_domains(chance, week, one_in(chance, 16) ? 768 : 256);
-    untie(week);
+    week_untie(week);
     tie_some(chance, week, below(chance, 5));
     for (uint32_t p = 0; p < week->n; p++) {
         week->loss[p] = part_of(chance, week->domain[p]);
@@ -274,7 +273,7 @@ void week_around(struct chance *chance, struct week *week, uint32_t n, uint8_t *
         week->give[p] = part_of(chance, week->domain[p]);
         order[p] = some_slot(chance, week->domain[p]);
     }
-    untie(week);
+    week_untie(week);
     tie_some(chance, week, below(chance, 4));
     let_stand(week, order);
 }

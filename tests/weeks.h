@@ -39,6 +39,9 @@ void week_copy(struct week *to, const struct week *from);
 /* A week without ties where every slot of every domain may be lost and given up; rules 0. */
 void week_plain(struct week *week, uint32_t n, uint32_t a, uint32_t b, uint16_t domain);
 
+/* Lets every two lots stand together in all slots of their domains. */
+void week_untie(struct week *week);
+
 /* Forbids, both ways, that lot p in slot v and lot q in slot w stand together. */
 void week_forbid(struct week *week, uint32_t p, uint8_t v, uint32_t q, uint8_t w);
 
