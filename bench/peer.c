@@ -148,6 +148,7 @@ int main(int argc, char **argv)
     week_load(argv[1], &week);
     double began = seconds();
     solver = ccadical_init();
+    ccadical_set_option(solver, "quiet", 1);
     make_order(order);
     stand(order, 0);
     make_rows(order);

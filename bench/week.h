@@ -7,7 +7,7 @@
 /* Reads a block file by the library's own read; ends the program with a message if that is refused. */
 void week_load(const char *path, struct plain_week *week);
 
-/* Seconds since some moment. */
+/* Seconds of processor time that this program has used: other work on the machine does not count. */
 double seconds(void);
 
 /* The arguments that a call of the library takes for a week. */
