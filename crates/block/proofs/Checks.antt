@@ -19,7 +19,9 @@ use Rattle.week.specs.Rules.{bitOf, inside, wordOf}
 use Rattle.week.specs.Tables.{lotOk, lotOkAt}
 use Rattle.week.proofs.Tables.{zero-first, zero-rest, halts, runs-on}
 use Rattle.block.specs.Fnv.{fnv}
-use Rattle.block.specs.Parts.{orZero, pairAt, pairsBefore, pairNumber}
+use Rattle.pairs.specs.Pairs.{pairAt, low, high, pairNumber}
+use Rattle.pairs.proofs.Numbers.{number-of}
+use Rattle.block.specs.Parts.{orZero}
 use Rattle.week.specs.declared.Numbers.{Numbers}
 use Rattle.block.specs.Reading.{contentIn, wordIn, numbersIn, wordsAt, wordsIn, bufferTests, buffersOk, wholeBlocks, holds4, blockRefusal, blocksRefusal, tieHeld}
 use Rattle.block.proofs.Parts.{list-padded}
@@ -137,15 +139,12 @@ pub words-padded : (F : List ℕ) (n k : ℕ) → n ≤ 24 → listOf (orZero (w
 unfolding wordsIn
 words-padded F n k h = list-padded 24 (listOf (wordsAt F n k) n) (let l = length-list (wordsAt F n k) n in omega arith)
 
-before-small : (m k : ℕ) → m ≤ 24 → pairsBefore m k ≤ 24 * k
-unfolding pairsBefore
-before-small m zero h = omega arith
-before-small m (suc k) h = let r = before-small (m - 1) k (omega arith) in omega arith
-
 -- a pair's number is small
 pub number-small : (n p q : ℕ) → p < q → q < n → n ≤ 24 → pairNumber n p q ≤ 600
-unfolding pairNumber
-number-small n p q h g l = let r = before-small (n - 1) p (omega arith) in omega arith
+number-small n p q h g l =
+    let b = number-of n l p q h g .below in
+    let m = mul-le-mul {n₁ = n} {m₁ = n - 1} {n₂ = 24} {m₂ = 24} l (omega arith) in
+    omega arith
 
 -- 3
 
@@ -155,7 +154,7 @@ lot-held D L G p d l g = rw (d, l, g)
 
 -- 4, of one word
 
-pub tie-held : (F : List ℕ) (n i : ℕ) {p q x y z m : ℕ} → p ≡ pairAt n (i / 16) .low → q ≡ pairAt n (i / 16) .high → x ≡ wordIn F p → y ≡ wordIn F q → z ≡ wordIn F (3 * n + i) → m ≡ cond (bitOf x (i % 16)) y 0 → inside z m ≡ tieHeld F n i
+pub tie-held : (F : List ℕ) (n i : ℕ) {p q x y z m : ℕ} → p ≡ low (pairAt n (i / 16)) → q ≡ high (pairAt n (i / 16)) → x ≡ wordIn F p → y ≡ wordIn F q → z ≡ wordIn F (3 * n + i) → m ≡ cond (bitOf x (i % 16)) y 0 → inside z m ≡ tieHeld F n i
 unfolding tieHeld
 tie-held F n i e f g h j k = ap₂ inside j (k ∙ ap₂ (λ (a b : ℕ). cond (bitOf a (i % 16)) b 0) (g ∙ ap (wordIn F) e) (h ∙ ap (wordIn F) f))
 

@@ -7,7 +7,8 @@ use lib.ListN.{getD}
 use borrow.Author.Tests.{lt-ltb, le-ltb}
 use Rattle.week.specs.Rules.{tieWord}
 use Rattle.week.specs.Tables.{Week, lots}
-use Rattle.block.specs.Parts.{byteOf, pairAt}
+use Rattle.pairs.specs.Pairs.{pairAt, low, high}
+use Rattle.block.specs.Parts.{byteOf}
 use Rattle.block.specs.Content.{numberAt, pairWord, tableWord, contentSize, contentByte}
 use Rattle.block.specs.File.{bodyByte}
 
@@ -34,11 +35,11 @@ module _ (W : Week) (j : ℕ) where
       rw (le-ltb j (lots W) k, le-ltb j (2 * lots W) m, le-ltb j (3 * lots W) h)
 
 -- a word of a pair, from the lots of the pair
-pub pair-word : (W : Week) (r v : ℕ) {p q : ℕ} → p ≡ pairAt (lots W) r .low → q ≡ pairAt (lots W) r .high → tieWord (lots W) (W .ties) p v q ≡ pairWord W r v
+pub pair-word : (W : Week) (r v : ℕ) {p q : ℕ} → p ≡ low (pairAt (lots W) r) → q ≡ high (pairAt (lots W) r) → tieWord (lots W) (W .ties) p v q ≡ pairWord W r v
 unfolding pairWord
 pair-word W r v e f = ap₂ (λ (p q : ℕ). tieWord (lots W) (W .ties) p v q) e f
 
-pub table-tie : (W : Week) (j : ℕ) {p q x : ℕ} → 3 * lots W ≤ j → p ≡ pairAt (lots W) ((j - 3 * lots W) / 16) .low → q ≡ pairAt (lots W) ((j - 3 * lots W) / 16) .high → x ≡ tieWord (lots W) (W .ties) p ((j - 3 * lots W) % 16) q → x ≡ tableWord W j
+pub table-tie : (W : Week) (j : ℕ) {p q x : ℕ} → 3 * lots W ≤ j → p ≡ low (pairAt (lots W) ((j - 3 * lots W) / 16)) → q ≡ high (pairAt (lots W) ((j - 3 * lots W) / 16)) → x ≡ tieWord (lots W) (W .ties) p ((j - 3 * lots W) % 16) q → x ≡ tableWord W j
 table-tie W j h e f g = g ∙ (pair-word W ((j - 3 * lots W) / 16) ((j - 3 * lots W) % 16) e f ∙ table-pair W j h)
 
 -- Bytes of the content

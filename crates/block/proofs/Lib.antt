@@ -5,7 +5,6 @@ pub mod Content
 pub mod File
 pub mod Writing
 pub mod Checks
-pub mod Pairs
 pub mod Ties
 pub mod Given
 pub mod Vectors

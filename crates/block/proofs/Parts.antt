@@ -4,14 +4,13 @@ use mathlib.Core.Path.{_≡_, refl, sym, _∙_, ap, ap₂}
 use mathlib.Core.List.{List, [], _∷_, _++_, append-nil}
 use Prim.Native.Nat.{ℕ, zero, suc, _+_, _-_, _≤_, _<_}
 use native.Mathlib.Omega.{arith}
-use native.Mathlib.Nat.{zero-add, suc-add, sub-zero}
+use native.Mathlib.Nat.{zero-add, suc-add}
 use native.Mathlib.Numerals.{add-one}
 use lib.ListN.{length, getD, set, take, drop, replicate, drop-of-length-le, length-append, length-drop, take-append-drop, List·getD-eq-default}
 use lib.Seq.{ext-getD, length-take-le}
-use borrow.Author.Tests.{lt-ltb, le-ltb}
 use Rattle.lex.specs.Lists.{listOf, padded}
 use Rattle.lex.proofs.Lists.{length-list, list-at, list-cong, list-join}
-use Rattle.block.specs.Parts.{orZero, Pair, pair, pairFrom, pairsBefore}
+use Rattle.block.specs.Parts.{orZero}
 
 -- Lists by what stands at their places
 
@@ -82,50 +81,3 @@ module _ (m : ℕ) (f : ℕ → ℕ) (d : List ℕ) where
 
   pub behind-end : {j n : ℕ} {s : List ℕ} → s ≡ take m d ++ (listOf f j ++ drop j (drop m d)) → j ≡ n → length d ≡ m + n → s ≡ take m d ++ listOf f n
   behind-end {j} {n} e h l = e ∙ ap (λ (t : List ℕ). take m d ++ t) (store-end f (drop m d) refl h (simp length-drop (omega arith)))
-
--- Pairs by number
-
-pub pair-here : (after p left : ℕ) → left < after → pairFrom after p left ≡ pair p (p + 1 + left)
-unfolding pairFrom
-pair-here zero p left l = absurd (omega arith)
-pair-here (suc m) p left l = rw (lt-ltb left (suc m) l, add-one)
-
-pub pair-later : (after p left : ℕ) → 0 < after → after ≤ left → pairFrom after p left ≡ pairFrom (after - 1) (p + 1) (left - after)
-unfolding pairFrom
-pair-later zero p left h l = absurd (omega arith)
-pair-later (suc m) p left h l =
-    let e : suc m - 1 ≡ m = omega arith in
-    rw (le-ltb left (suc m) l, add-one, e)
-
--- the pair looked for is one of this lot's
-pub pair-found : (after p left : ℕ) {P : Pair} → pairFrom after p left ≡ P → left < after → (p ≡ P .low) × (p + 1 + left ≡ P .high)
-pair-found after p left e l = let f = sym (pair-here after p left l) ∙ e in (ap (λ (x : Pair). x .low) f, ap (λ (x : Pair). x .high) f)
-
-pair-none : (p left : ℕ) → pairFrom 0 p left ≡ pair p p
-unfolding pairFrom
-pair-none p left = refl
-
--- no lot stands after this one
-pub pair-lost : {after p : ℕ} (left : ℕ) {P : Pair} → pairFrom after p left ≡ P → after ≡ 0 → (p ≡ P .low) × (p ≡ P .high)
-pair-lost {after} {p} left e z = let f = sym (ap (λ (m : ℕ). pairFrom m p left) z ∙ pair-none p left) ∙ e in (ap (λ (x : Pair). x .low) f, ap (λ (x : Pair). x .high) f)
-
--- one lot's pairs, where lots k to p - 1 are still to count
-pub before-next : (m k p : ℕ) → k < p → pairsBefore m (p - k) ≡ m + pairsBefore (m - 1) (p - (k + 1))
-unfolding pairsBefore
-before-next m k p l =
-    let e : p - k ≡ suc (p - (k + 1)) = omega arith in
-    rw e
-
-pub before-none : (m : ℕ) → pairsBefore m 0 ≡ 0
-unfolding pairsBefore
-before-none m = refl
-
-pub before-start : (m p : ℕ) → 0 + pairsBefore m (p - 0) ≡ pairsBefore m p
-before-start m p = zero-add (pairsBefore m (p - 0)) ∙ ap (pairsBefore m) (sub-zero p)
-
-pub before-end : (before m k p : ℕ) {x : ℕ} → before + pairsBefore m (p - k) ≡ x → k ≡ p → before ≡ x
-before-end before m k p e h =
-    let z : p - k ≡ 0 = omega arith in
-    let f = before-none m in
-    let g = ap (pairsBefore m) z in
-    omega arith

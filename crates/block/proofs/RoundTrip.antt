@@ -13,7 +13,7 @@ use lib.Dec.{eqb}
 use lib.ListN.{length, getD, take, drop, List·getD-append, length-drop}
 use lib.Seq.{ext-getD, getD-append-add, getD-take, getD-drop, length-take-le}
 use borrow.Author.Tests.{lt-ltb, eq-eqb}
-use Rattle.lex.specs.Every.{every, oneIf}
+use Rattle.lex.specs.Every.{oneIf}
 use Rattle.lex.specs.Lists.{listOf}
 use Rattle.lex.proofs.Every.{false-of, every-true, every-at}
 use Rattle.lex.proofs.Lists.{length-list, list-at}
@@ -23,7 +23,10 @@ use Rattle.week.specs.Tables.{Week, week, lots, pairRules, refusal, admits, num
 use Rattle.week.proofs.Words.{bit-zero}
 use Rattle.week.proofs.Tables.{Limits, accepted, Right, bit-read, goes-on, goes-off, passed-rest, passed-last}
 use Rattle.block.specs.Fnv.{fnv}
-use Rattle.block.specs.Parts.{Pair, byteOf, pairAt, pairNumber}
+use Rattle.pairs.specs.Pairs.{pairAt, low, high, pairNumber}
+use Rattle.pairs.proofs.Pairs.{pair-low, pair-high}
+use Rattle.pairs.proofs.Numbers.{number-of}
+use Rattle.block.specs.Parts.{byteOf}
 use Rattle.block.specs.Content.{numberAt, pairWord, tableWord, contentSize, contentByte}
 use Rattle.block.specs.File.{blocks, bodyByte, body, blockOf, fileByte, fileOf}
 use Rattle.block.specs.Reading.{contentIn, wordIn, numbersIn, wordsAt, wordsIn, pairWordIn, pairBitIn, tieIn, tiesAt, tiesIn, weekOf, weekIn, byteIs, holds4, blockRefusal, blocksRefusal, fillsAt, fillingOk, fileRefusal}
@@ -31,7 +34,6 @@ use Rattle.block.proofs.Sizes.{size-words, size-some, blocks-small, blo
 use Rattle.block.proofs.Content.{table-domain, table-loss, table-give, table-pair, pair-word, content-number, content-word, content-rest, body-number, body-content}
 use Rattle.block.proofs.File.{length-body}
 use Rattle.block.proofs.Checks.{blocks-all, numbers-read}
-use Rattle.block.proofs.Pairs.{pair-of-number, number-below}
 use Rattle.block.proofs.Ties.{tie-before, tie-after, tie-same, place-low, place-high}
 use Rattle.block.proofs.Given.{not-refused}
 
@@ -175,7 +177,7 @@ module _ (W : Week) where
   module _ (small : Words16 W) where
     pair16 : (r v : ℕ) → pairWord W r v < 65536
     unfolding pairWord
-    pair16 r v = tie16 W small (pairAt (lots W) r .low) v (pairAt (lots W) r .high)
+    pair16 r v = tie16 W small (low (pairAt (lots W) r)) v (high (pairAt (lots W) r))
 
     table16 : (j : ℕ) → tableWord W j < 65536
     table16 j = elim (decLt j (lots W)) [
@@ -210,7 +212,7 @@ module _ (W : Week) where
         list-at (wordsAt (fileOf W) (lots W) k) (lots W) p g ∙ (word-of (k * lots W + p) (omega arith) ∙ h p g))
 
     -- the ties, on a table that is not refused with 4
-    module _ (K : tiesOk (pairRules W) ≡ true) where
+    module _ (K : tiesOk (pairRules W) ≡ true) (few : lots W ≤ 24) where
       right : (p q v w : ℕ) → p < lots W → q < lots W → v < 16 → w < 16 → Right (pairRules W) p q v w
       unfolding tiesOk lotTiesOk pairOk wordOk
       right p q v w l m h k = bit-read (pairRules W) p q v w (every-at (bitOk (pairRules W) p q v) 16 w (every-at (wordOk (pairRules W) p q) 16 v (every-at (pairOk (pairRules W) p) (lots W) q (every-at (lotTiesOk (pairRules W)) (lots W) p K l) m) h) k)
@@ -219,13 +221,13 @@ module _ (W : Week) where
       unfolding pairWordIn
       pair-of p q v l m h =
           let r : ℕ = pairNumber (lots W) p q in
-          let b = number-below (lots W) p q l m in
-          let P = pair-of-number (lots W) p q l m in
+          let o = number-of (lots W) few p q l m in
+          let b = o .below in
           let d : (3 * lots W + r * 16 + v - 3 * lots W) / 16 ≡ r = omega arith in
           let e : (3 * lots W + r * 16 + v - 3 * lots W) % 16 ≡ v = omega arith in
           word-of (3 * lots W + r * 16 + v) (omega arith)
           ∙ (sym (table-pair W (3 * lots W + r * 16 + v) (omega arith)) ∙ (ap₂ (pairWord W) d e
-          ∙ sym (pair-word W r v (ap (λ (x : Pair). x .low) (sym P)) (ap (λ (x : Pair). x .high) (sym P)))))
+          ∙ sym (pair-word W r v (sym (ap (λ (A : List ℕ). low A) (o .back) ∙ pair-low p q)) (sym (ap (λ (A : List ℕ). high A) (o .back) ∙ pair-high p q)))))
 
       nothing : (p v : ℕ) → p < lots W → v < 16 → 0 ≡ tieWord (lots W) (W .ties) p v p
       unfolding together
@@ -280,7 +282,7 @@ module _ (W : Week) (small : Words16 W) (ok : refusal W ≡ 0) where
       (table-of W small 0 (W .domain) z (a .lengths .domain) (λ p l. let e : 0 * n + p ≡ p = omega arith in ap (tableWord W) e ∙ sym (table-domain W p l)))
       (table-of W small 1 (W .loss) y (a .lengths .loss) (λ p l. let e : 1 * n + p - n ≡ p = omega arith in sym (table-loss W (1 * n + p) (omega arith) (omega arith)) ∙ ap (λ (i : ℕ). getD (W .loss) i 0) e))
       (table-of W small 2 (W .give) x (a .lengths .give) (λ p l. let e : 2 * n + p - 2 * n ≡ p = omega arith in sym (table-give W (2 * n + p) (omega arith) (omega arith)) ∙ ap (λ (i : ℕ). getD (W .give) i 0) e))
-      (ties-of W small ties-ok (a .limits .some) (a .lengths .ties))
+      (ties-of W small ties-ok (a .limits .few) (a .limits .some) (a .lengths .ties))
     where
       tables : {d l g t : List ℕ} → d ≡ W .domain → l ≡ W .loss → g ≡ W .give → t ≡ W .ties → week (W .numbers) d l g t ≡ W
       tables e f g h = rw (e, f, g, h)

@@ -20,11 +20,13 @@ use Rattle.week.specs.Rules.{Rules, rules, bitOf, inside, inDomain, tieWord, to
 use Rattle.week.specs.Tables.{bitOk, wordOk, pairOk, lotTiesOk, lotTiesHalf, tiesOk}
 use Rattle.week.proofs.Words.{bit-zero, inside-at, square-small}
 use Rattle.week.proofs.Tables.{Right, bit-read, bit-make, ties-half}
-use Rattle.block.specs.Parts.{pair, orZero, pairAt, pairNumber}
+use Rattle.pairs.specs.Pairs.{pairAt, low, high, pairNumber}
+use Rattle.pairs.proofs.Pairs.{pair-low, pair-high}
+use Rattle.pairs.proofs.Numbers.{count-twice, number-of, Paired, pair-of}
+use Rattle.block.specs.Parts.{orZero}
 use Rattle.block.specs.Reading.{wordIn, wordsAt, wordsIn, pairWordIn, pairBitIn, tieIn, tiesAt, tiesIn, tieHeld}
 use Rattle.block.proofs.Parts.{list-padded}
 use Rattle.block.proofs.Checks.{word-small}
-use Rattle.block.proofs.Pairs.{pair-of-number, number-below, IsPair, is-pair}
 
 -- A word made from its bits has them
 
@@ -134,66 +136,74 @@ module _ (F : List ℕ) (n : ℕ) where
   cond-bit false y w e = absurd (not-both e (bit-zero w))
 
   -- word i of the pairs' words, by its pair
-  held-is : (i p q v : ℕ) → i / 16 ≡ pairNumber n p q → i % 16 ≡ v → pairAt n (i / 16) ≡ pair p q → tieHeld F n i ≡ inside (pairWordIn F n p q v) (cond (bitOf (wordIn F p) v) (wordIn F q) 0)
+  held-is : (i p q v : ℕ) → i / 16 ≡ pairNumber n p q → i % 16 ≡ v → low (pairAt n (i / 16)) ≡ p → high (pairAt n (i / 16)) ≡ q → tieHeld F n i ≡ inside (pairWordIn F n p q v) (cond (bitOf (wordIn F p) v) (wordIn F q) 0)
   unfolding tieHeld pairWordIn
-  held-is i p q v d m e =
+  held-is i p q v d m e f =
       let a : 3 * n + i ≡ 3 * n + pairNumber n p q * 16 + v = omega arith in
-      rw (a, m, e)
+      rw (a, m, e, f)
 
-  -- no bit of a pair's word is outside the domains
-  held-at : every (tieHeld F n) (8 * (n * (n - 1))) ≡ true → (p q v w : ℕ) → p < q → q < n → v < 16 → bitOf (pairWordIn F n p q v) w ≡ true → (bitOf (wordIn F p) v ≡ true) × (bitOf (wordIn F q) w ≡ true)
-  held-at e p q v w l m h b =
-      let d : (pairNumber n p q * 16 + v) / 16 ≡ pairNumber n p q = omega arith in
-      let r : (pairNumber n p q * 16 + v) % 16 ≡ v = omega arith in
-      let k = number-below n p q l m in
-      let t = every-at (tieHeld F n) (8 * (n * (n - 1))) (pairNumber n p q * 16 + v) e (omega arith) in
-      let s = sym (held-is (pairNumber n p q * 16 + v) p q v d r (ap (pairAt n) d ∙ pair-of-number n p q l m)) ∙ t in
-      cond-bit (bitOf (wordIn F p) v) (wordIn F q) w (inside-at (pairWordIn F n p q v) (cond (bitOf (wordIn F p) v) (wordIn F q) 0) w s b)
+  module _ (few : n ≤ 24) where
+    -- no bit of a pair's word is outside the domains
+    held-at : every (tieHeld F n) (8 * (n * (n - 1))) ≡ true → (p q v w : ℕ) → p < q → q < n → v < 16 → bitOf (pairWordIn F n p q v) w ≡ true → (bitOf (wordIn F p) v ≡ true) × (bitOf (wordIn F q) w ≡ true)
+    held-at e p q v w l m h b =
+        let d : (pairNumber n p q * 16 + v) / 16 ≡ pairNumber n p q = omega arith in
+        let r : (pairNumber n p q * 16 + v) % 16 ≡ v = omega arith in
+        let o = number-of n few p q l m in
+        let k = o .below in
+        let is = ap (pairAt n) d ∙ o .back in
+        let t = every-at (tieHeld F n) (8 * (n * (n - 1))) (pairNumber n p q * 16 + v) e (omega arith) in
+        let s = sym (held-is (pairNumber n p q * 16 + v) p q v d r (ap (λ (A : List ℕ). low A) is ∙ pair-low p q) (ap (λ (A : List ℕ). high A) is ∙ pair-high p q)) ∙ t in
+        cond-bit (bitOf (wordIn F p) v) (wordIn F q) w (inside-at (pairWordIn F n p q v) (cond (bitOf (wordIn F p) v) (wordIn F q) 0) w s b)
 
-  -- so each bit is right, the higher lot first
-  right-lower : every (tieHeld F n) (8 * (n * (n - 1))) ≡ true → (p q v w : ℕ) → q < p → p < n → v < 16 → w < 16 → Right R p q v w
-  right-lower e p q v w l m h k =
-      let t = with-lower p q v w l m h k in
-      record {
-        mirror = t ∙ sym (with-higher q p w v l m k);
-        here = λ b. in-domain p v m ∙ held-at e q p w v l m k (sym t ∙ b) .1;
-        there = λ b. in-domain q w (omega arith) ∙ held-at e q p w v l m k (sym t ∙ b) .0;
-        apart = λ b z. omega arith;
-      }
+    -- so each bit is right, the higher lot first
+    right-lower : every (tieHeld F n) (8 * (n * (n - 1))) ≡ true → (p q v w : ℕ) → q < p → p < n → v < 16 → w < 16 → Right R p q v w
+    right-lower e p q v w l m h k =
+        let t = with-lower p q v w l m h k in
+        record {
+          mirror = t ∙ sym (with-higher q p w v l m k);
+          here = λ b. in-domain p v m ∙ held-at e q p w v l m k (sym t ∙ b) .1;
+          there = λ b. in-domain q w (omega arith) ∙ held-at e q p w v l m k (sym t ∙ b) .0;
+          apart = λ b z. omega arith;
+        }
 
-  right-itself : (p q v w : ℕ) → q ≡ p → p < n → v < 16 → w < 16 → Right R p q v w
-  right-itself p q v w z m h k =
-      let a : together R p v q w ≡ false = ap (λ (x : ℕ). together R p v x w) z ∙ with-itself p v w m h in
-      let b : together R q w p v ≡ false = ap (λ (x : ℕ). together R x w p v) z ∙ with-itself p w v m k in
-      record { mirror = a ∙ sym b; here = λ t. absurd (not-both t a); there = λ t. absurd (not-both t a); apart = λ t. absurd (not-both t a) }
+    right-itself : (p q v w : ℕ) → q ≡ p → p < n → v < 16 → w < 16 → Right R p q v w
+    right-itself p q v w z m h k =
+        let a : together R p v q w ≡ false = ap (λ (x : ℕ). together R p v x w) z ∙ with-itself p v w m h in
+        let b : together R q w p v ≡ false = ap (λ (x : ℕ). together R x w p v) z ∙ with-itself p w v m k in
+        record { mirror = a ∙ sym b; here = λ t. absurd (not-both t a); there = λ t. absurd (not-both t a); apart = λ t. absurd (not-both t a) }
 
-  -- each word of a pair, read from a right tie table
-  held-back : tiesOk R ≡ true → (i : ℕ) → i < 8 * (n * (n - 1)) → tieHeld F n i ≡ true
-  unfolding tiesOk lotTiesOk pairOk wordOk inside
-  held-back e i l =
-      let P = pairAt n (i / 16) in
-      let o : IsPair n (i / 16) P = is-pair n (i / 16) (omega arith) in
-      let v : ℕ = i % 16 in
-      let y : ℕ = cond (bitOf (wordIn F (P .low)) v) (wordIn F (P .high)) 0 in
-      held-is i (P .low) (P .high) v (sym (o .number)) refl refl
-      ∙ every-true (λ w. imp (bitOf (pairWordIn F n (P .low) (P .high) v) w) (bitOf y w)) 16 (λ w k. imp-in (bitOf (pairWordIn F n (P .low) (P .high) v) w) (bitOf y w) (bit o w k))
-    where
-      bit : IsPair n (i / 16) (pairAt n (i / 16)) → (w : ℕ) → w < 16 → bitOf (pairWordIn F n (pairAt n (i / 16) .low) (pairAt n (i / 16) .high) (i % 16)) w ≡ true → bitOf (cond (bitOf (wordIn F (pairAt n (i / 16) .low)) (i % 16)) (wordIn F (pairAt n (i / 16) .high)) 0) w ≡ true
-      bit o w k b =
-          let P = pairAt n (i / 16) in
-          let lt = o .order in
-          let m = o .inside in
-          let u : i % 16 < 16 = omega arith in
-          let lo : P .low < n = omega arith in
-          let r = bit-read R (P .low) (P .high) (i % 16) w (every-at (bitOk R (P .low) (P .high) (i % 16)) 16 w (every-at (wordOk R (P .low) (P .high)) 16 (i % 16) (every-at (pairOk R (P .low)) n (P .high) (every-at (lotTiesOk R) n (P .low) e lo) m) u) k) in
-          let t : together R (P .low) (i % 16) (P .high) w ≡ true = with-higher (P .low) (P .high) (i % 16) w lt m u ∙ b in
-          let d : bitOf (wordIn F (P .low)) (i % 16) ≡ true = sym (in-domain (P .low) (i % 16) lo) ∙ r .here t in
-          rw d (sym (in-domain (P .high) w m) ∙ r .there t)
+    -- each word of a pair, read from a right tie table
+    held-back : tiesOk R ≡ true → (i : ℕ) → i < 8 * (n * (n - 1)) → tieHeld F n i ≡ true
+    unfolding tiesOk lotTiesOk pairOk wordOk inside
+    held-back e i l =
+        let o = pair-of n few (i / 16) (omega (arith, count-twice n few)) in
+        let v : ℕ = i % 16 in
+        let y : ℕ = cond (bitOf (wordIn F p) v) (wordIn F q) 0 in
+        held-is i p q v (sym (o .number)) refl refl refl
+        ∙ every-true (λ w. imp (bitOf (pairWordIn F n p q v) w) (bitOf y w)) 16 (λ w k. imp-in (bitOf (pairWordIn F n p q v) w) (bitOf y w) (bit o w k))
+      where
+        -- the two lots of the word's pair
+        p : ℕ
+        p = low (pairAt n (i / 16))
 
-  pub ties-held : every (tieHeld F n) (8 * (n * (n - 1))) ≡ tiesOk R
-  unfolding lotTiesHalf pairOk wordOk
-  ties-held =
-      same-truth (every (tieHeld F n) (8 * (n * (n - 1)))) (tiesOk R)
-      (λ e. sym (ties-half R) ∙ every-true (lotTiesHalf R) n (λ p l. every-true (pairOk R p) (p + 1) (λ q m. every-true (wordOk R p q) 16 (λ v h. every-true (bitOk R p q v) 16 (λ w k.
-      bit-make R p q v w (elim (decLt q p) [ yes g ↦ right-lower e p q v w g l h k | no g ↦ right-itself p q v w (omega arith) l h k ]))))))
-      (λ e. every-true (tieHeld F n) (8 * (n * (n - 1))) (held-back e))
+        q : ℕ
+        q = high (pairAt n (i / 16))
+
+        bit : Paired n few (i / 16) → (w : ℕ) → w < 16 → bitOf (pairWordIn F n p q (i % 16)) w ≡ true → bitOf (cond (bitOf (wordIn F p) (i % 16)) (wordIn F q) 0) w ≡ true
+        bit o w k b =
+            let lt = o .order in
+            let m = o .inside in
+            let u : i % 16 < 16 = omega arith in
+            let lo : p < n = omega arith in
+            let r = bit-read R p q (i % 16) w (every-at (bitOk R p q (i % 16)) 16 w (every-at (wordOk R p q) 16 (i % 16) (every-at (pairOk R p) n q (every-at (lotTiesOk R) n p e lo) m) u) k) in
+            let t : together R p (i % 16) q w ≡ true = with-higher p q (i % 16) w lt m u ∙ b in
+            let d : bitOf (wordIn F p) (i % 16) ≡ true = sym (in-domain p (i % 16) lo) ∙ r .here t in
+            rw d (sym (in-domain q w m) ∙ r .there t)
+
+    pub ties-held : every (tieHeld F n) (8 * (n * (n - 1))) ≡ tiesOk R
+    unfolding lotTiesHalf pairOk wordOk
+    ties-held =
+        same-truth (every (tieHeld F n) (8 * (n * (n - 1)))) (tiesOk R)
+        (λ e. sym (ties-half R) ∙ every-true (lotTiesHalf R) n (λ p l. every-true (pairOk R p) (p + 1) (λ q m. every-true (wordOk R p q) 16 (λ v h. every-true (bitOk R p q v) 16 (λ w k.
+        bit-make R p q v w (elim (decLt q p) [ yes g ↦ right-lower e p q v w g l h k | no g ↦ right-itself p q v w (omega arith) l h k ]))))))
+        (λ e. every-true (tieHeld F n) (8 * (n * (n - 1))) (held-back e))

@@ -15,7 +15,9 @@ use Rattle.lex.proofs.Lists.{length-list, list-at}
 use Rattle.week.specs.Tables.{Week, refusal}
 use Rattle.week.proofs.Tables.{passed-first, passed-rest, passed-last}
 use Rattle.block.specs.Fnv.{fnv}
-use Rattle.block.specs.Parts.{byteOf, pairAt}
+use Rattle.pairs.specs.Pairs.{pairAt, low, high}
+use Rattle.pairs.proofs.Numbers.{count-twice, pair-of}
+use Rattle.block.specs.Parts.{byteOf}
 use Rattle.block.specs.Content.{numberAt, pairWord, tableWord, contentSize, contentByte}
 use Rattle.block.specs.File.{blocks, bodyByte, body, blockOf, fileByte, fileOf}
 use Rattle.block.specs.Reading.{contentIn, wordIn, numbersIn, wordsIn, pairWordIn, weekOf, weekIn, byteIs, holds4, blockRefusal, fillsAt, fillingOk, fileRefusal}
@@ -23,7 +25,6 @@ use Rattle.block.proofs.Parts.{or-zero}
 use Rattle.block.proofs.Sizes.{size-words}
 use Rattle.block.proofs.Content.{table-domain, table-loss, table-give, table-pair, content-number, content-word, content-rest, body-number, body-content}
 use Rattle.block.proofs.Checks.{blocks-each, lot-inside}
-use Rattle.block.proofs.Pairs.{is-pair}
 use Rattle.block.proofs.Ties.{tie-before, tie-read}
 use Rattle.block.proofs.Given.{Held, held, week-fine}
 use Rattle.block.proofs.RoundTrip.{body-at, check-at}
@@ -75,10 +76,10 @@ module _ (F : List ℕ) (s : Bytes F) (h : Held F) where
   pair-in : (r v : ℕ) → v < 16 → 2 * r + 1 ≤ n * (n - 1) → pairWord W r v ≡ wordIn F (3 * n + r * 16 + v)
   unfolding pairWord weekOf pairWordIn
   pair-in r v k l =
-      let o = is-pair n r l in
+      let o = pair-of n (h .limits .few) r (omega (arith, count-twice n (h .limits .few))) in
       let lt = o .order in
       let m = o .inside in
-      tie-read F n (pairAt n r .low) (pairAt n r .high) v (omega arith) m k
+      tie-read F n (low (pairAt n r)) (high (pairAt n r)) v (omega arith) m k
       ∙ (sym (tie-before F n v lt) ∙ ap (λ (x : ℕ). wordIn F (3 * n + x * 16 + v)) (o .number))
 
   word-at : (k p : ℕ) → p < n → getD (wordsIn F n k) p 0 ≡ wordIn F (k * n + p)

@@ -8,7 +8,8 @@ use lib.ListN.{getD}
 use Rattle.week.specs.declared.Numbers.{Numbers}
 use Rattle.week.specs.Rules.{tieWord}
 use Rattle.week.specs.Tables.{Week, lots}
-use Rattle.block.specs.Parts.{byteOf, pairAt}
+use Rattle.pairs.specs.Pairs.{pairAt, low, high}
+use Rattle.block.specs.Parts.{byteOf}
 
 -- n, a, b, alternative rule, k, helper rule
 unfoldable pub numberAt : Numbers → ℕ → ℕ
@@ -16,7 +17,7 @@ numberAt N i = getD (N .n ∷ N .a ∷ N .b ∷ N .alternative ∷ N .gap ∷ N 
 
 -- word v of the 16 words of pair r
 unfoldable pub pairWord : Week → ℕ → ℕ → ℕ
-pairWord W r v = tieWord (lots W) (W .ties) (pairAt (lots W) r .low) v (pairAt (lots W) r .high)
+pairWord W r v = tieWord (lots W) (W .ties) (low (pairAt (lots W) r)) v (high (pairAt (lots W) r))
 
 -- word j of the tables: domain, loss and give words, then for each pair p < q the 16 words of (p, q)
 unfoldable pub tableWord : Week → ℕ → ℕ

@@ -11,8 +11,9 @@ use Rattle.week.specs.declared.Numbers.{Numbers}
 use Rattle.week.specs.Refusal.{unless, orElse}
 use Rattle.week.specs.Rules.{bitOf, inside, wordOf}
 use Rattle.week.specs.Tables.{Week, week, lots, pairRules, numbersOk, wordsOk, tiesOk}
+use Rattle.pairs.specs.Pairs.{pairAt, low, high, pairNumber}
 use Rattle.block.specs.Fnv.{fnv}
-use Rattle.block.specs.Parts.{byteOf, pairAt, pairNumber}
+use Rattle.block.specs.Parts.{byteOf}
 use Rattle.block.specs.Content.{contentSize}
 use Rattle.block.specs.File.{blocks}
 
@@ -125,7 +126,7 @@ readRefusal F d l g t = orElse (unless (buffersOk (length d) (length l) (length 
 -- What the code asks of the ties, each word of a pair p < q once: that is 4 of a file's week (proofs/Ties.antt, `ties-held`).
 -- word i of the pairs' words has no slot outside the domains
 unfoldable pub tieHeld : List ℕ → ℕ → ℕ → Bool
-tieHeld F n i = inside (wordIn F (3 * n + i)) (cond (bitOf (wordIn F (pairAt n (i / 16) .low)) (i % 16)) (wordIn F (pairAt n (i / 16) .high)) 0)
+tieHeld F n i = inside (wordIn F (3 * n + i)) (cond (bitOf (wordIn F (low (pairAt n (i / 16)))) (i % 16)) (wordIn F (high (pairAt n (i / 16)))) 0)
 
 -- What read answers and gives, and the lent buffers afterwards
 pub record Given : Type 0 where

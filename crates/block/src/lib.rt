@@ -10,7 +10,7 @@ ghost use Rattle.lex.specs.Lists.{listOf, padded};
 ghost use Rattle.week.specs.Rules.{rules, bitOf, wordOf};
 ghost use Rattle.week.specs.Tables.{week, numbersOk, lotOkAt, wordsOk, tiesOk};
 ghost use Rattle.block.specs.Fnv.{fnv};
-ghost use Rattle.block.specs.Parts.{orZero, byteOf, pairAt, pairNumber};
+ghost use Rattle.block.specs.Parts.{orZero, byteOf};
 ghost use Rattle.block.specs.Content.{contentSize, numberAt, tableWord, contentByte};
 ghost use Rattle.block.specs.File.{blocks, bodyByte, body, blockOf, fileOf, written, writeOf};
 ghost use Rattle.block.specs.Reading.{contentIn, wordIn, numbersIn, wordsIn, pairWordIn, pairBitIn, tieIn, tiesIn, weekOf, buffersOk, wholeBlocks, holds4, blockRefusal, blocksRefusal, fillingOk, heldRefusal, fileRefusal, tieHeld, given, noNumbers, readOf};
@@ -19,15 +19,10 @@ use week::Numbers;
 use week::Slot;
 
 // What read answers beside the lent buffers.
+#[repr(C)]
 pub struct Reading {
     pub answer: u32,
     pub numbers: Numbers,
-}
-
-// Two different lots, the lower one first.
-struct Pair {
-    low: Lot,
-    high: Lot,
 }
 
 // The product modulo 2 ^ 32.
@@ -63,48 +58,6 @@ fn byte_of(x: u32, j: usize) -> u8
     ensures { λ r. ⌜ r ≡ byteOf x j ⌝ }
 {
     ((x >> (8 * j)) % 256) as u8
-}
-
-// Pair r of n lots, in the order (0,1), (0,2) and so on.
-fn pair_at(n: u32, r: usize) -> Pair
-    requires { ⌜ (1 ≤ n) × (n ≤ 24) ⌝ }
-    ensures { λ s. ⌜ (s .low .0 ≡ pairAt n r .low) × (s .high .0 ≡ pairAt n r .high) ⌝ }
-{
-    let mut p: usize = 0;
-    let mut after: usize = n as usize - 1;
-    let mut left: usize = r;
-    while 0 < after {
-        if left < after {
-            return Pair {
-                low: Lot(p as u8),
-                high: Lot((p + 1 + left) as u8),
-            };
-        }
-        left -= after;
-        after -= 1;
-        p += 1;
-    }
-    Pair {
-        low: Lot(p as u8),
-        high: Lot(p as u8),
-    }
-}
-
-// The number of the pair p < q of n lots.
-fn pair_number(n: u32, p: Lot, q: Lot) -> usize
-    requires { ⌜ (p .0 < q .0) × (q .0 < n) × (n ≤ 24) ⌝ }
-    ensures { λ r. ⌜ r ≡ pairNumber n (p .0) (q .0) ⌝ }
-{
-    let low = p.0;
-    let mut before: usize = 0;
-    let mut after: usize = n as usize - 1;
-    let mut k: u8 = 0;
-    while k < low {
-        before += after;
-        after -= 1;
-        k += 1;
-    }
-    before + (q.0 - (low + 1)) as usize
 }
 
 // How many bytes of content n lots have.
@@ -171,7 +124,7 @@ fn table_word(
         return week::word_of(give, Lot((j - 2 * lots) as u8));
     }
     let i = j - 3 * lots;
-    let pair = pair_at(n, i / 16);
+    let pair = pairs::pair_at(n, i / 16);
     week::tie_word(n, ties, pair.low, Slot((i % 16) as u8), pair.high)
 }
 
@@ -388,7 +341,7 @@ fn pair_word_in(file: &[u8], n: u32, p: Lot, q: Lot, v: Slot) -> u16
 {
     word_in(
         file,
-        3 * (n as usize) + pair_number(n, p, q) * 16 + v.0 as usize,
+        3 * (n as usize) + pairs::pair_number(n, p, q) * 16 + v.0 as usize,
     )
 }
 
@@ -586,7 +539,7 @@ fn tie_held(file: &[u8], n: u32, i: usize) -> bool
     requires { ⌜ (1 ≤ n) × (n ≤ 24) × (i < 9216) ⌝ }
     ensures { λ r. ⌜ r ≡ tieHeld (now (file .entry)) n i ⌝ }
 {
-    let pair = pair_at(n, i / 16);
+    let pair = pairs::pair_at(n, i / 16);
     let low = word_in(file, pair.low.0 as usize);
     let high = word_in(file, pair.high.0 as usize);
     let word = word_in(file, 3 * (n as usize) + i);

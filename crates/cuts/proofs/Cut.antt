@@ -19,7 +19,8 @@ use Rattle.week.specs.declared.Numbers.{Numbers}
 use Rattle.week.specs.Rules.{Rules, bitOf, inDomain, together, slotStands, pairStands, lotStands, keeps}
 use Rattle.week.specs.Tables.{Week, lots, pairRules}
 use Rattle.repair.specs.declared.Lost.{Lost}
-use Rattle.repair.specs.Break.{single, pair, lostSets, breaks, rowCount}
+use Rattle.pairs.specs.Pairs.{pair}
+use Rattle.repair.specs.Break.{single, lostSets, breaks, rowCount}
 use Rattle.repair.specs.Found.{lotsOf}
 use Rattle.repair.specs.Repair.{Case, case, mayGo, moves, goesAt, movesAt, mends, repairOf}
 use Rattle.robust.specs.Super.{rowSets, isBreak, repairFor, safe, robust}

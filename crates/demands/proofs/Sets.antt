@@ -12,7 +12,8 @@ use Rattle.lex.specs.Every.{every, everyOf}
 use Rattle.lex.specs.Lists.{same}
 use Rattle.lex.proofs.Every.{every-true, every-at}
 use Rattle.lex.proofs.Lists.{same-eq, same-self}
-use Rattle.repair.specs.Break.{lotsFrom, single, pair, singles, pairsOf, pairs, lostSets, lostOk, place, rowNumber, rowCount}
+use Rattle.pairs.specs.Pairs.{lotsFrom, pair, pairsOf, pairs, place}
+use Rattle.repair.specs.Break.{single, singles, lostSets, lostOk, rowNumber, rowCount}
 use Rattle.repair.proofs.Rows.{row-below}
 use Rattle.robust.proofs.Rows.{every-row, set-fewer, count-most}
 use Rattle.robust.proofs.Super.{single-read, single-make, pair-read, pair-make, sets-read, sets-make}

@@ -20,7 +20,8 @@ use Rattle.week.specs.Tables.{Week, lots, pairRules}
 use Rattle.week.proofs.Tables.{accepted}
 use Rattle.week.proofs.Words.{bit-and, bit-or, bit-zero, bit-below}
 use Rattle.repair.specs.declared.Lost.{Lost}
-use Rattle.repair.specs.Break.{single, pair, breaks}
+use Rattle.pairs.specs.Pairs.{pair}
+use Rattle.repair.specs.Break.{single, breaks}
 use Rattle.repair.specs.Found.{lotsOf}
 use Rattle.repair.specs.Repair.{isLost, replaces, helps}
 use Rattle.robust.proofs.Rows.{lost-single, lost-pair, Row, row-single, row-pair}

@@ -7,7 +7,8 @@ use lib.ListN.{length, getD}
 use Rattle.week.specs.declared.Numbers.{Numbers}
 use Rattle.week.specs.Rules.{bitOf, tieWord}
 use Rattle.week.specs.Tables.{Week, lots, pairRules, refusal}
-use Rattle.repair.specs.Break.{single, pair}
+use Rattle.pairs.specs.Pairs.{pair}
+use Rattle.repair.specs.Break.{single}
 use Rattle.repair.specs.Repair.{replaces, helps}
 use Rattle.parts.specs.Part.{placed}
 use Rattle.cuts.specs.Cut.{safeOn, robustOn}

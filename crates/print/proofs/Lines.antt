@@ -9,7 +9,8 @@ use lib.Dec.{eqb}
 use lib.ListN.{getD, take, drop}
 use borrow.Author.Tests.{eqb-true, eqb-false, lt-ltb, le-ltb}
 use Rattle.repair.specs.declared.Lost.{Lost}
-use Rattle.repair.specs.Break.{single, pair, lostSets, rowCount, rowAt}
+use Rattle.pairs.specs.Pairs.{pair}
+use Rattle.repair.specs.Break.{single, lostSets, rowCount, rowAt}
 use Rattle.repair.specs.Found.{lotsOf}
 use Rattle.repair.proofs.Break.{lots-single, lots-pair}
 use Rattle.robust.proofs.Rows.{set-fewer}

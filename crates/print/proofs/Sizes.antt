@@ -11,7 +11,8 @@ use lib.ListN.{length, getD, drop, length-append, length-take}
 use borrow.Author.Tests.{leb-true}
 use Rattle.lex.specs.Every.{every, everyOf}
 use Rattle.lex.proofs.Every.{every-at}
-use Rattle.repair.specs.Break.{lotsFrom, single, pair, singles, pairsOf, pairs, lostSets, rowCount, rowAt}
+use Rattle.pairs.specs.Pairs.{lotsFrom, pair, pairsOf, pairs}
+use Rattle.repair.specs.Break.{single, singles, lostSets, rowCount, rowAt}
 use Rattle.repair.proofs.Numbering.{count-two}
 use Rattle.repair.proofs.Rows.{count-none, count-one}
 use Rattle.robust.proofs.Rows.{every-row, set-fewer, count-most}

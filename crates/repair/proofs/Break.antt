@@ -11,7 +11,8 @@ use borrow.Author.Tests.{leb-true, le-leb, ltb-true, lt-ltb, le-ltb, eqb-true, e
 use Rattle.lex.specs.Every.{every}
 use Rattle.lex.proofs.Every.{each, each-all, false-of, every-at}
 use Rattle.repair.specs.declared.Lost.{Lost}
-use Rattle.repair.specs.Break.{single, pair, lotBelow, lotAscends, lostTests, lostOk, LostList}
+use Rattle.pairs.specs.Pairs.{pair}
+use Rattle.repair.specs.Break.{single, lotBelow, lotAscends, lostTests, lostOk, LostList}
 use Rattle.repair.specs.Found.{lotsOf}
 
 -- One lot of a list, as the code reads it

@@ -23,7 +23,8 @@ use Rattle.lex.proofs.Lists.{padded-wide, padded-take}
 use Rattle.week.specs.Rules.{Rules, keeps, fits, lotFits, keepsHalf}
 use Rattle.week.proofs.Rules.{keeps-closed, keeps-below, fits-cong, half-snoc as keeps-snoc, half-below, Symmetric, keeps-half}
 use Rattle.repair.specs.declared.Lost.{Lost}
-use Rattle.repair.specs.Break.{single, pair}
+use Rattle.pairs.specs.Pairs.{pair}
+use Rattle.repair.specs.Break.{single}
 use Rattle.repair.specs.Found.{lotsOf}
 use Rattle.repair.specs.Repair.{Case, isLost, replaces, yields, helps, mayGo, moves, goesAt, movesAt, mends, repairOf, mendsHalf, mendsAt, repairHalf}
 

@@ -1,61 +1,61 @@
--- The numbers of a repair table's rows, by a formula: checked by computation for every number of lots that a week may have.
+-- The numbers of a repair table's rows: the single lots by their own numbers, and behind them the pairs by theirs.
 -- Assumes nothing.
-use mathlib.Core.Path.{_≡_, refl}
-use mathlib.Core.Bool.{Bool, true, _&&_}
-use mathlib.Core.List.{flatMap}
-use Prim.Native.Nat.{ℕ, _+_, _-_, _*_, _/_, _≤_, _<_}
+use mathlib.Core.Path.{_≡_, refl, _∙_, ap}
+use mathlib.Core.Bool.{Bool, _&&_, cond, and-false}
+use mathlib.Core.List.{List, [], _++_, map}
+use Prim.Native.Nat.{ℕ, zero, suc, _+_, _-_, _*_, _/_, _≤_, _<_}
 use native.Mathlib.Omega.{arith}
-use lib.Dec.{eqb, ltb}
-use borrow.Author.Tests.{eqb-true, ltb-true}
-use Rattle.lex.specs.Every.{every}
+use native.Mathlib.Decide.{decLt}
+use lib.Dec.{eqb}
+use lib.ListN.{length, length-append, length-map}
+use borrow.Author.Tests.{eq-eqb, ne-eqb}
 use Rattle.lex.specs.Lists.{same}
-use Rattle.lex.proofs.Every.{and-left, and-right, every-at}
-use Rattle.repair.specs.Break.{lotsFrom, single, pair, singles, pairsOf, pairs, lostSets, place, rowNumber, rowCount}
+use Rattle.pairs.specs.Pairs.{lotsFrom, pair, pairs, place, pairNumber}
+use Rattle.pairs.proofs.Pairs.{length-lots}
+use Rattle.pairs.proofs.Numbers.{count-pairs, number-of}
+use Rattle.repair.specs.Break.{single, singles, lostSets, rowNumber, rowCount}
 
--- the row of the pair p < q of n lots: behind the n single rows, the pairs of the lots before p and those of p before q
-abbrev pub pairRow : ℕ → ℕ → ℕ → ℕ
-pairRow n p q = n + p * (n + n - p - 1) / 2 + (q - p - 1)
+-- a single lot's place among the single lots from s on
+place-single : (p s k : ℕ) (t : List (List ℕ)) → s ≤ p → p < s + k → place (same (single p)) (map single (lotsFrom s k) ++ t) ≡ p - s
+unfolding lotsFrom place same single
+place-single p s zero t h l = absurd (omega arith)
+place-single p s (suc k) t h l = elim (decLt s p) [
+  | yes m ↦
+      let r = place-single p (suc s) k t (omega arith) (omega arith) in
+      ap (λ (b : Bool). cond (b && same [] []) 0 (suc (place (same (single p)) (map single (lotsFrom (suc s) k) ++ t)))) (ne-eqb p s (λ z. omega arith)) ∙ (ap suc r ∙ omega arith)
+  | no m ↦ ap (λ (b : Bool). cond (b && same [] []) 0 (suc (place (same (single p)) (map single (lotsFrom (suc s) k) ++ t)))) (eq-eqb p s (omega arith)) ∙ omega arith
+]
 
-singleWell : ℕ → ℕ → Bool
-singleWell n p = eqb (rowNumber n (single p)) p
+-- a pair is none of them
+place-pair : (p q s k : ℕ) (t : List (List ℕ)) → place (same (pair p q)) (map single (lotsFrom s k) ++ t) ≡ k + place (same (pair p q)) t
+unfolding lotsFrom place same single pair
+place-pair p q s zero t = omega arith
+place-pair p q s (suc k) t = rw (and-false (eqb p s)) (ap suc (place-pair p q (suc s) k t) ∙ omega arith)
 
-pairWell : ℕ → ℕ → ℕ → Bool
-pairWell n q p = eqb (rowNumber n (pair p q)) (pairRow n p q) && ltb (pairRow n p q) (n + n * (n - 1) / 2)
+module _ (n : ℕ) where
+  pub sets-two : lostSets n 2 ≡ singles n ++ pairs n
+  unfolding lostSets
+  sets-two = refl
 
-pairsWell : ℕ → ℕ → Bool
-pairsWell n q = every (pairWell n q) q
-
-lotsWell : ℕ → Bool
-lotsWell n = eqb (rowCount n 2) (n + n * (n - 1) / 2) && (every (singleWell n) n && every (pairsWell n) n)
-
-numbered : every lotsWell 25 ≡ true
-unfolding every flatMap lotsFrom single pair singles pairsOf pairs lostSets same place rowNumber rowCount singleWell pairWell pairsWell lotsWell
-numbered = refl
-
-module _ (n : ℕ) (few : n ≤ 24) where
-  well : lotsWell n ≡ true
-  well = every-at lotsWell 25 n numbered (omega arith)
-
-  pub count-two : rowCount n 2 ≡ n + n * (n - 1) / 2
-  unfolding lotsWell
-  count-two = eqb-true (rowCount n 2) (n + n * (n - 1) / 2) (and-left (eqb (rowCount n 2) (n + n * (n - 1) / 2)) (every (singleWell n) n && every (pairsWell n) n) well)
-
-  others : (every (singleWell n) n && every (pairsWell n) n) ≡ true
-  unfolding lotsWell
-  others = and-right (eqb (rowCount n 2) (n + n * (n - 1) / 2)) (every (singleWell n) n && every (pairsWell n) n) well
+  pub length-singles : length (singles n) ≡ n
+  unfolding singles
+  length-singles = length-map (lotsFrom 0 n) single ∙ length-lots 0 n
 
   pub number-single : (p : ℕ) → p < n → rowNumber n (single p) ≡ p
-  unfolding singleWell
-  number-single p l = eqb-true (rowNumber n (single p)) p (every-at (singleWell n) n p (and-left (every (singleWell n) n) (every (pairsWell n) n) others) l)
+  unfolding rowNumber singles
+  number-single p l = ap (place (same (single p))) sets-two ∙ (place-single p 0 n (pairs n) (omega arith) (omega arith) ∙ omega arith)
 
-  of-pair : (p q : ℕ) → p < q → q < n → pairWell n q p ≡ true
-  unfolding pairsWell
-  of-pair p q l m = every-at (pairWell n q) q p (every-at (pairsWell n) n q (and-right (every (singleWell n) n) (every (pairsWell n) n) others) m) l
+  pub number-pair : (p q : ℕ) → rowNumber n (pair p q) ≡ n + pairNumber n p q
+  unfolding rowNumber singles pairNumber
+  number-pair p q = ap (place (same (pair p q))) sets-two ∙ place-pair p q 0 n (pairs n)
 
-  pub number-pair : (p q : ℕ) → p < q → q < n → rowNumber n (pair p q) ≡ pairRow n p q
-  unfolding pairWell
-  number-pair p q l m = eqb-true (rowNumber n (pair p q)) (pairRow n p q) (and-left (eqb (rowNumber n (pair p q)) (pairRow n p q)) (ltb (pairRow n p q) (n + n * (n - 1) / 2)) (of-pair p q l m))
+  pub count-two : n ≤ 24 → rowCount n 2 ≡ n + n * (n - 1) / 2
+  unfolding rowCount
+  count-two few =
+      let e = ap length sets-two ∙ length-append (singles n) (pairs n) in
+      let a = length-singles in
+      let b = count-pairs n few in
+      omega arith
 
-  pub pair-below : (p q : ℕ) → p < q → q < n → pairRow n p q < n + n * (n - 1) / 2
-  unfolding pairWell
-  pair-below p q l m = ltb-true (pairRow n p q) (n + n * (n - 1) / 2) (and-right (eqb (rowNumber n (pair p q)) (pairRow n p q)) (ltb (pairRow n p q) (n + n * (n - 1) / 2)) (of-pair p q l m))
+  pub pair-below : n ≤ 24 → (p q : ℕ) → p < q → q < n → n + pairNumber n p q < n + n * (n - 1) / 2
+  pair-below few p q l m = omega (arith, number-of n few p q l m .below)

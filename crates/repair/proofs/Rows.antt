@@ -2,21 +2,22 @@
 -- Assumes nothing.
 use mathlib.Core.Path.{_≡_, refl, sym, _∙_, ap}
 use mathlib.Core.Bool.{true, false, _&&_, and-false}
-use mathlib.Core.List.{List, [], _∷_, map, append-nil}
+use mathlib.Core.List.{List, [], _∷_, append-nil}
 use Prim.Native.Nat.{ℕ, zero, suc, _+_, _-_, _*_, _≤_, _<_}
 use native.Mathlib.Omega.{arith}
 use native.Mathlib.Nat.{mul-le-mul, mul-le-mul-right, suc-mul}
 use lib.Dec.{eqb, leb}
-use lib.ListN.{length, getD, take, drop, length-map}
+use lib.ListN.{length, getD, take, drop}
 use borrow.Author.Tests.{leb-true, eqb-true, eq-eqb, ne-eqb}
 use Rattle.lex.proofs.Every.{and-left, and-right, both}
 use Rattle.week.proofs.Tables.{stops, goes-on, stops-last, goes-off, passed-first, passed-rest, passed-last}
 use Rattle.repair.specs.declared.Lost.{Lost}
-use Rattle.repair.specs.Break.{lotsFrom, single, pair, singles, lostSets, lostOk, LostList, rowNumber, rowCount, rowAt}
+use Rattle.pairs.specs.Pairs.{pair, pairNumber}
+use Rattle.repair.specs.Break.{single, singles, lostSets, lostOk, LostList, rowNumber, rowCount, rowAt}
 use Rattle.repair.specs.Found.{lotsOf}
 use Rattle.repair.specs.Service.{rowNumbers, rowLengths, rowAnswer, rowPart}
 use Rattle.repair.proofs.Break.{lost-read, lost-list, lost-below, lots-first, lots-last, lots-single, lots-pair}
-use Rattle.repair.proofs.Numbering.{pairRow, count-two, number-single, number-pair, pair-below}
+use Rattle.repair.proofs.Numbering.{length-singles, count-two, number-single, number-pair, pair-below}
 
 -- How many rows
 
@@ -24,14 +25,9 @@ pub count-none : (n : ℕ) → rowCount n 0 ≡ 0
 unfolding rowCount lostSets
 count-none n = refl
 
-pub length-lots : (p k : ℕ) → length (lotsFrom p k) ≡ k
-unfolding lotsFrom
-length-lots p zero = refl
-length-lots p (suc k) = ap suc (length-lots (suc p) k)
-
 pub count-one : (n : ℕ) → rowCount n 1 ≡ n
-unfolding rowCount lostSets singles
-count-one n = ap length (append-nil (map single (lotsFrom 0 n))) ∙ length-map (lotsFrom 0 n) single ∙ length-lots 0 n
+unfolding rowCount lostSets
+count-one n = ap length (append-nil (singles n)) ∙ length-singles n
 
 -- n × (n − 1) is small
 pub product-small : {x y : ℕ} → x ≤ 24 → y ≤ 48 → x * y ≤ 1152
@@ -59,12 +55,12 @@ module _ (n a : ℕ) (few : n ≤ 24) (at-most : a ≤ 2) where
 
 -- Which row stands for a loss
 
-module _ (n : ℕ) (few : n ≤ 24) (L : Lost) where
+module _ (n : ℕ) (L : Lost) where
   pub row-single : L .0 .0 ≡ L .1 .0 → L .1 .0 < n → L .0 .0 ≡ rowNumber n (lotsOf L)
-  row-single e h = sym (ap (rowNumber n) (lots-single L e) ∙ number-single n few (L .0 .0) (omega arith))
+  row-single e h = sym (ap (rowNumber n) (lots-single L e) ∙ number-single n (L .0 .0) (omega arith))
 
-  pub row-pair : L .0 .0 < L .1 .0 → L .1 .0 < n → pairRow n (L .0 .0) (L .1 .0) ≡ rowNumber n (lotsOf L)
-  row-pair e h = sym (ap (rowNumber n) (lots-pair L (λ z. omega arith)) ∙ number-pair n few (L .0 .0) (L .1 .0) e h)
+  pub row-pair : L .0 .0 < L .1 .0 → n + pairNumber n (L .0 .0) (L .1 .0) ≡ rowNumber n (lotsOf L)
+  row-pair e = sym (ap (rowNumber n) (lots-pair L (λ z. omega arith)) ∙ number-pair n (L .0 .0) (L .1 .0))
 
 -- it is a row of the table
 module _ (n a : ℕ) (few : n ≤ 24) (at-most : a ≤ 2) where
@@ -73,11 +69,11 @@ module _ (n a : ℕ) (few : n ≤ 24) (at-most : a ≤ 2) where
   row-below A h e = go A h e (lost-list n 0 a A at-most h e) (lost-below n 0 a A at-most h e) (lost-read n 0 a A e .few)
     where
       two : (p q : ℕ) → p < q → q < n → a ≡ 2 → rowNumber n (pair p q) < rowCount n a
-      two p q l m e = rw (e, count-two n few, number-pair n few p q l m) (pair-below n few p q l m)
+      two p q l m e = rw (e, count-two n few, number-pair n p q) (pair-below n few p q l m)
 
       go : (A : List ℕ) → 1 ≤ length A → lostOk n 0 a A ≡ true → LostList A → ((i : ℕ) → i < length A → getD A i 0 < n) → length A ≤ a → rowNumber n A < rowCount n a
       go [] h e l b m = absurd (omega arith)
-      go (p ∷ []) h e l b m = let k = count-some n a few at-most (omega arith) in let i = b 0 (omega arith) in let j = number-single n few p i in rw j (omega arith)
+      go (p ∷ []) h e l b m = let k = count-some n a few at-most (omega arith) in let i = b 0 (omega arith) in let j = number-single n p i in rw j (omega arith)
       go (p ∷ q ∷ []) h e l b m = two p q (l .ascends (omega arith)) (b 1 (omega arith)) (omega arith)
       go (p ∷ q ∷ r ∷ A) h e l b m = absurd (omega (arith, l .few))
 

@@ -1,34 +1,20 @@
 -- Breaks: the sets of lots that can be lost, in the order of a repair table's rows.
 -- A set of lots is the ascending list of its lots. Assumes nothing.
 use mathlib.Core.Bool.{Bool, cond}
-use mathlib.Core.List.{List, [], _∷_, _++_, map, flatMap}
-use Prim.Native.Nat.{ℕ, zero, suc, _+_, _-_, _*_, _≤_, _<_}
+use mathlib.Core.List.{List, [], _∷_, _++_, map}
+use Prim.Native.Nat.{ℕ, _+_, _-_, _*_, _≤_, _<_}
 use lib.Dec.{ltb, leb}
 use lib.ListN.{length, getD, take, drop}
 use Rattle.lex.specs.Every.{all, every, everyOf}
 use Rattle.lex.specs.Lists.{same}
 use Rattle.week.specs.Rules.{bitOf}
-
--- the k lots from p on
-unfoldable pub lotsFrom : ℕ → ℕ → List ℕ
-lotsFrom p zero = []
-lotsFrom p (suc k) = p ∷ lotsFrom (suc p) k
+use Rattle.pairs.specs.Pairs.{lotsFrom, pairs, place}
 
 unfoldable pub single : ℕ → List ℕ
 single p = p ∷ []
 
-unfoldable pub pair : ℕ → ℕ → List ℕ
-pair p q = p ∷ q ∷ []
-
 unfoldable pub singles : ℕ → List (List ℕ)
 singles n = map single (lotsFrom 0 n)
-
--- lot p with each lot after it
-unfoldable pub pairsOf : ℕ → ℕ → List (List ℕ)
-pairsOf n p = map (pair p) (lotsFrom (suc p) (n - suc p))
-
-unfoldable pub pairs : ℕ → List (List ℕ)
-pairs n = flatMap (pairsOf n) (lotsFrom 0 n)
 
 -- the sets of 1 to a of n lots, a at most 2: single lots ascending, then pairs (0,1), (0,2) and so on
 unfoldable pub lostSets : ℕ → ℕ → List (List ℕ)
@@ -65,12 +51,7 @@ pub record LostList (A : List ℕ) : Type 0 where
 
 -- The rows of a repair table
 
--- the number of the first member that passes f
-unfoldable pub place : (List ℕ → Bool) → List (List ℕ) → ℕ
-place f [] = 0
-place f (A ∷ l) = let r = suc (place f l) in cond (f A) 0 r
-
--- the row that stands for a set; rows count from 0
+-- the row that stands for a set: its place among all of them; rows count from 0
 unfoldable pub rowNumber : ℕ → List ℕ → ℕ
 rowNumber n A = place (same A) (lostSets n 2)
 

@@ -8,7 +8,8 @@ use Prim.Native.Nat.{ℕ}
 use lib.Dec.{eqb}
 use Rattle.lex.specs.First.{isFound, orOld}
 use Rattle.lex.specs.Lists.{padded}
-use Rattle.repair.specs.Break.{single, pair}
+use Rattle.pairs.specs.Pairs.{pair}
+use Rattle.repair.specs.Break.{single}
 use Rattle.repair.specs.declared.Lost.{Lost}
 use Rattle.repair.specs.declared.Found.{Found}
 

@@ -621,13 +621,10 @@ fn row_number(n: u32, lost: Lost) -> usize
 {
     let first = lost.0;
     let last = lost.1;
-    let p = first.0 as usize;
-    let q = last.0 as usize;
-    if p == q {
-        return p;
+    if first.0 == last.0 {
+        return first.0 as usize;
     }
-    let lots = n as usize;
-    lots + p * (lots + lots - p - 1) / 2 + (q - p - 1)
+    n as usize + pairs::pair_number(n, first, last)
 }
 
 // Whether an order has n bytes and its table n bytes a row. Inner layers share it: they know the limits of n and a.

@@ -2,123 +2,46 @@
 -- Assumes nothing.
 use mathlib.Core.Path.{_≡_, refl, sym, _∙_, ap}
 use mathlib.Core.Bool.{Bool, true, false, _&&_, not, cond, and-true, and-self}
-use mathlib.Core.List.{List, [], _∷_, _++_, map, flatMap, append-nil}
-use Prim.Native.Nat.{ℕ, zero, suc, _+_, _-_, _≤_, _<_}
+use mathlib.Core.List.{List, [], _∷_, append-nil}
+use Prim.Native.Nat.{ℕ, zero, suc, _-_, _*_, _/_, _≤_, _<_}
 use native.Mathlib.Omega.{arith}
-use native.Mathlib.Nat.{sub-zero}
-use native.Mathlib.Decide.{decLt}
-use native.Mathlib.Numerals.{add-one}
 use lib.Dec.{eqb}
-use lib.ListN.{length, getD, length-append, length-map, List·getD-append}
-use lib.Seq.{getD-append-add}
+use lib.ListN.{length, getD, length-append, List·getD-append}
 use borrow.Author.Tests.{eqb-true, not-true, not-false}
 use Rattle.lex.specs.Every.{every, everyOf}
 use Rattle.lex.specs.Lists.{same}
 use Rattle.lex.proofs.Every.{same-truth, both, and-left, and-right, not-both, every-true, every-at, every-miss}
 use Rattle.lex.proofs.Lists.{same-eq, same-self}
 use Rattle.repair.specs.declared.Lost.{Lost}
-use Rattle.repair.specs.Break.{lotsFrom, single, pair, singles, pairsOf, pairs, lostSets, breaks, rowCount}
+use Rattle.pairs.specs.Pairs.{lotsFrom, pair, pairs, pairAt, low, high}
+use Rattle.pairs.proofs.Pairs.{length-lots, getD-lots, getD-sets, getD-past}
+use Rattle.pairs.proofs.Numbers.{Paired}
+use Rattle.repair.specs.Break.{single, singles, lostSets, breaks, rowCount}
 use Rattle.repair.specs.Found.{lotsOf}
 use Rattle.repair.proofs.Break.{lots-single, lots-pair}
-use Rattle.repair.proofs.Rows.{length-lots}
+use Rattle.repair.proofs.Numbering.{sets-two, length-singles, count-two}
 use Rattle.week.specs.Rules.{bitOf}
 use Rattle.robust.proofs.Super.{single-read, pair-read, sets-read}
 
--- Lists by their places
-
-getD-lots : (p k i : ℕ) → i < k → getD (lotsFrom p k) i 0 ≡ p + i
-unfolding lotsFrom
-getD-lots p zero i h = absurd (omega arith)
-getD-lots p (suc k) zero h = omega arith
-getD-lots p (suc k) (suc i) h = getD-lots (suc p) k i (omega arith) ∙ omega arith
-
--- the i-th of a list of sets made from lots
-getD-sets : (f : ℕ → List ℕ) (l : List ℕ) (i : ℕ) → i < length l → getD (map f l) i [] ≡ f (getD l i 0)
-getD-sets f [] i h = absurd (omega arith)
-getD-sets f (x ∷ l) zero h = refl
-getD-sets f (x ∷ l) (suc i) h = getD-sets f l i (omega arith)
-
--- past the first list, in the second
-getD-past : (s t : List (List ℕ)) (i : ℕ) → length s ≤ i → getD (s ++ t) i [] ≡ getD t (i - length s) []
-getD-past s t i h = ap (λ (j : ℕ). getD (s ++ t) j []) (omega arith) ∙ getD-append-add s t (i - length s) []
+-- The set of a row
 
 module _ (n : ℕ) where
-  length-singles : length (singles n) ≡ n
-  unfolding singles
-  length-singles = length-map (lotsFrom 0 n) single ∙ length-lots 0 n
-
-  sets-two : lostSets n 2 ≡ singles n ++ pairs n
-  unfolding lostSets
-  sets-two = refl
-
   -- a single row
   pub set-single : (i : ℕ) → i < n → getD (lostSets n 2) i [] ≡ single i
   unfolding singles
   set-single i h =
-      rw sets-two
+      rw (sets-two n)
       (List·getD-append (singles n) (pairs n) [] i (rw length-singles h)
       ∙ getD-sets single (lotsFrom 0 n) i (rw length-lots h)
       ∙ ap single (getD-lots 0 n i h ∙ omega arith))
 
-  -- the pairs of the lots from p on
-  abbrev pub rest : ℕ → List (List ℕ)
-  rest p = flatMap (pairsOf n) (lotsFrom p (n - p))
+  -- behind those, the pairs by their numbers
+  pub set-pair : (i : ℕ) → n ≤ i → getD (lostSets n 2) i [] ≡ pairAt n (i - n)
+  unfolding pairAt
+  set-pair i h = rw (sets-two n) (getD-past (singles n) (pairs n) i (rw length-singles h) ∙ rw length-singles)
 
-  pub set-rest : (i : ℕ) → n ≤ i → getD (lostSets n 2) i [] ≡ getD (rest 0) (i - n) []
-  unfolding pairs
-  set-rest i h = rw sets-two (getD-past (singles n) (pairs n) i (rw length-singles h) ∙ rw (length-singles, sub-zero))
-
-  rest-step : (p : ℕ) → p < n → rest p ≡ pairsOf n p ++ rest (p + 1)
-  unfolding flatMap lotsFrom
-  rest-step p h = rw add-one (go (n - p) (n - suc p) (omega arith))
-    where
-      go : (m k : ℕ) → m ≡ suc k → flatMap (pairsOf n) (lotsFrom p m) ≡ pairsOf n p ++ flatMap (pairsOf n) (lotsFrom (suc p) k)
-      go m k e = rw e
-
-  length-pairs : (p : ℕ) → length (pairsOf n p) ≡ n - p - 1
-  unfolding pairsOf
-  length-pairs p = length-map (lotsFrom (suc p) (n - suc p)) (pair p) ∙ length-lots (suc p) (n - suc p) ∙ omega arith
-
-  -- the pair is one of lot p's
-  pub rest-here : (p k : ℕ) → p < n → k < n - p - 1 → getD (rest p) k [] ≡ pair p (p + 1 + k)
-  unfolding pairsOf
-  rest-here p k h l =
-      rw (rest-step p h)
-      (List·getD-append (pairsOf n p) (rest (p + 1)) [] k (rw length-pairs l)
-      ∙ getD-sets (pair p) (lotsFrom (suc p) (n - suc p)) k (rw length-lots (omega arith))
-      ∙ ap (pair p) (getD-lots (suc p) (n - suc p) k (omega arith) ∙ omega arith))
-
-  -- the pair is one of a later lot's
-  pub rest-later : (p k : ℕ) → p < n → n - p - 1 ≤ k → getD (rest (p + 1)) (k - (n - p - 1)) [] ≡ getD (rest p) k []
-  rest-later p k h l = sym (rw (rest-step p h) (getD-past (pairsOf n p) (rest (p + 1)) k (rw length-pairs l) ∙ rw length-pairs))
-
-  -- the search for a pair's row stays within the pairs
-
-  rest-end : (p : ℕ) → n ≤ p → rest p ≡ []
-  unfolding flatMap lotsFrom
-  rest-end p h = go (n - p) (omega arith)
-    where
-      go : (m : ℕ) → m ≡ 0 → flatMap (pairsOf n) (lotsFrom p m) ≡ []
-      go m e = rw e
-
-  length-rest : (p : ℕ) → p < n → length (rest p) ≡ n - p - 1 + length (rest (p + 1))
-  length-rest p h = ap length (rest-step p h) ∙ length-append (pairsOf n p) (rest (p + 1)) ∙ rw length-pairs
-
-  pub rest-room : (p k : ℕ) → p < n → k < length (rest p) → p + 1 < n
-  rest-room p k h l = elim (decLt (p + 1) n) [
-    | yes m ↦ m
-    | no m ↦ absurd (let e = length-rest p h in let f = ap length (rest-end (p + 1) (omega arith)) in omega arith)
-  ]
-
-  pub rest-less : (p k : ℕ) → p < n → n - p - 1 ≤ k → k < length (rest p) → k - (n - p - 1) < length (rest (p + 1))
-  rest-less p k h l m = let e = length-rest p h in omega arith
-
-  pub rest-start : (i : ℕ) → n ≤ i → i < rowCount n 2 → i - n < length (rest 0)
-  unfolding rowCount pairs
-  rest-start i h l =
-      let e : rowCount n 2 ≡ n + length (flatMap (pairsOf n) (lotsFrom 0 n)) = ap length sets-two ∙ length-append (singles n) (pairs n) ∙ rw length-singles in
-      let f = sub-zero n in
-      rw f (omega arith)
+  pub pair-row : n ≤ 24 → (i : ℕ) → n ≤ i → i < rowCount n 2 → i - n < n * (n - 1) / 2
+  pair-row few i h l = let e = count-two n few in omega arith
 
 -- The lots of a loss, as the code holds it
 
@@ -127,6 +50,10 @@ lost-single i L e f = lots-single L (e ∙ sym f) ∙ ap single e
 
 pub lost-pair : (p q : ℕ) (L : Lost) → L .0 .0 ≡ p → L .1 .0 ≡ q → p < q → lotsOf L ≡ pair p q
 lost-pair p q L e f h = lots-pair L (λ z. omega arith) ∙ rw (e, f)
+
+-- the loss of a pair by its number
+pub lost-numbered : (n : ℕ) (few : n ≤ 24) (r : ℕ) (L : Lost) → L .0 .0 ≡ low (pairAt n r) → L .1 .0 ≡ high (pairAt n r) → Paired n few r → lotsOf L ≡ pairAt n r
+lost-numbered n few r L e f p = lost-pair (low (pairAt n r)) (high (pairAt n r)) L e f (p .order) ∙ sym (p .lots)
 
 -- a loss is a break if its first and its last lot stand in slots of their loss words
 pub breaks-both : (loss s : List ℕ) (L : Lost) → breaks loss s (lotsOf L) ≡ (bitOf (getD loss (L .0 .0) 0) (getD s (L .0 .0) 0) && bitOf (getD loss (L .1 .0) 0) (getD s (L .1 .0) 0))

@@ -16,7 +16,8 @@ use Rattle.lex.specs.First.{isFound}
 use Rattle.lex.proofs.Every.{both, and-left, and-right, imp-in, imp-out, everyOf-append, everyOf-imp}
 use Rattle.week.specs.Rules.{keeps}
 use Rattle.week.specs.Tables.{Week, lots, pairRules}
-use Rattle.repair.specs.Break.{lotsFrom, single, pair, singles, pairsOf, pairs, lostSets}
+use Rattle.pairs.specs.Pairs.{lotsFrom, pair, pairsOf, pairs}
+use Rattle.repair.specs.Break.{single, singles, lostSets}
 use Rattle.repair.specs.Repair.{case, replaces, yields, helps, mayGo, moves, goesAt, movesAt}
 use Rattle.repair.proofs.Mends.{mends-read, mends-make, repair-found, found-repair}
 use Rattle.robust.specs.Super.{isBreak, repairFor, safe, robust, isSuper}

@@ -1,5 +1,5 @@
-// What a super solution is, and of its code what solving, checking and printing share: the losses that the rows of a repair table stand for, and which of
-// them break an order.
+// What a super solution is, and of its code what solving, checking and printing share: the losses that the rows of a repair table
+// stand for, and which of them break an order.
 use repair::Lost;
 use week::Lot;
 ghost use mathlib.Core.Path.{_≡_};
@@ -18,13 +18,10 @@ pub fn lost_at(n: u32, i: usize) -> Lost
     if i < lots {
         return Lost(Lot(i as u8), Lot(i as u8));
     }
-    let mut left = i - lots;
-    let mut p: usize = 0;
-    while lots - p - 1 <= left {
-        left -= lots - p - 1;
-        p += 1;
-    }
-    Lost(Lot(p as u8), Lot((p + 1 + left) as u8))
+    let pair = pairs::pair_at(n, i - lots);
+    let low = pair.low;
+    let high = pair.high;
+    Lost(low, high)
 }
 
 // Whether each lot of a loss stands in a slot of its loss word.

@@ -4,7 +4,7 @@ use mathlib.Core.Path.{_∙_, ap}
 use Prim.Native.Nat.{ℕ, _+_, _*_, _≤_}
 use native.Mathlib.Omega.{arith}
 use borrow.Author.Needs.{needs}
-use Rattle.block.specs.Parts.{pairNumber}
+use Rattle.pairs.specs.Pairs.{pairNumber}
 use Rattle.block.specs.Reading.{wordIn, pairWordIn}
 use Rattle.block.proofs.Checks.{number-small}
 use Rattle.block.proofs.pair_word_in.Statement.{statement}

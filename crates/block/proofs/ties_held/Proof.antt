@@ -40,7 +40,7 @@ tie-held-requires : tie.Need-tie-held-requires Inv-loop μ-loop
 tie-held-requires c κs = search needs
 
 returns : tie.Need-returns Inv-loop μ-loop
-returns c = sym (every-false _ _ (c .before .before .before .loop .i) (c .before .before .loop-test .taken) (sym (c .before .tie-held .ensures) ∙ not-true _ (c .if1 .taken))) ∙ ties-held _ _
+returns c = sym (every-false _ _ (c .before .before .before .loop .i) (c .before .before .loop-test .taken) (sym (c .before .tie-held .ensures) ∙ not-true _ (c .if1 .taken))) ∙ ties-held _ _ (omega arith)
 
 add-i : tie.Need-add-i Inv-loop μ-loop
 add-i c = search needs
@@ -52,7 +52,7 @@ loop-again : tie.Need-loop-again Inv-loop μ-loop
 loop-again c = (omega arith, c .before .before .before .loop .inv .1, every-step _ _ (c .before .before .before .loop .inv .2) (sym (c .before .tie-held .ensures) ∙ not-false _ (c .if1 .left)))
 
 returns-2 : tie.Need-returns-2 Inv-loop μ-loop
-returns-2 c = every-end _ (c .before .loop .inv .2) (omega arith) ∙ ties-held _ _
+returns-2 c = every-end _ (c .before .loop .inv .2) (omega arith) ∙ ties-held _ _ (omega arith)
 
 pub ties-held-spec : {M : Type 1} → statement M
 ties-held-spec =

@@ -1,61 +1,36 @@
--- `repair::row_number` meets its contract: a loss of one lot has the row of its number, one of two lots the row of its pair.
+-- `repair::row_number` meets its contract: a loss of one lot has the row of its number, one of two lots stands behind those.
 -- Assumes nothing.
-use Prim.Native.Nat.{_+_, _-_}
+use mathlib.Core.Path.{_∙_, ap}
+use Prim.Native.Nat.{ℕ, _+_, _-_}
 use native.Mathlib.Omega.{arith}
 use borrow.Author.Needs.{needs}
+use Rattle.repair.proofs.Numbering.{pair-below}
 use Rattle.repair.proofs.Rows.{row-single, row-pair, product-small}
 use Rattle.repair.proofs.row_number.Statement.{statement}
 use Rattle.repair.proofs.row_number.Tie as tie
 
-cast-p : tie.Need-cast-p
-cast-p c = search needs
-
-cast-q : tie.Need-cast-q
-cast-q c = search needs
+cast-result : tie.Need-cast-result
+cast-result c = search needs
 
 returns : tie.Need-returns
-returns c = row-single _ (c .before .before .before .before .before .pre .0) _ (c .if1 .taken) (c .before .before .before .before .before .pre .1 .1)
+returns c =
+    let start = c .before .before .before .before .before .before in
+    row-single (start .args .n) (start .args .lost) (c .before .if1 .taken) (start .pre .1 .1)
+
+pair-number-requires : tie.Need-pair-number-requires
+pair-number-requires c κs = search needs
 
 add-result : tie.Need-add-result
-add-result c = search needs
-
-sub-result : tie.Need-sub-result
-sub-result c = search needs
-
-sub-result-2 : tie.Need-sub-result-2
-sub-result-2 c = search needs
-
-mul-result : tie.Need-mul-result
-mul-result c = omega (arith, product-small {x = c .before .before .before .before .before .args .lost .0 .0} {y = c .before .before .before .before .before .args .n + c .before .before .before .before .before .args .n - c .before .before .before .before .before .args .lost .0 .0 - 1} (omega arith) (omega arith))
-
-add-result-2 : tie.Need-add-result-2
-add-result-2 c = omega (arith, product-small {x = c .before .before .before .before .before .args .lost .0 .0} {y = c .before .before .before .before .before .args .n + c .before .before .before .before .before .args .n - c .before .before .before .before .before .args .lost .0 .0 - 1} (omega arith) (omega arith))
-
-sub-result-3 : tie.Need-sub-result-3
-sub-result-3 c = search needs
-
-sub-result-4 : tie.Need-sub-result-4
-sub-result-4 c = search needs
-
-add-result-3 : tie.Need-add-result-3
-add-result-3 c = omega (arith, product-small {x = c .before .before .before .before .before .args .lost .0 .0} {y = c .before .before .before .before .before .args .n + c .before .before .before .before .before .args .n - c .before .before .before .before .before .args .lost .0 .0 - 1} (omega arith) (omega arith))
+add-result c =
+    let start = c .before .before .before .before .before .before in
+    let below = pair-below (start .args .n) (start .pre .0) (start .args .lost .0 .0) (start .args .lost .1 .0) (omega arith) (start .pre .1 .1) in
+    omega (arith, below, product-small {x = start .args .n} {y = start .args .n - 1} (omega arith) (omega arith))
 
 returns-2 : tie.Need-returns-2
-returns-2 c = row-pair _ (c .before .before .before .before .before .pre .0) _ (omega arith) (c .before .before .before .before .before .pre .1 .1)
+returns-2 c =
+    let start = c .before .before .before .before .before .before in
+    ap (λ (k : ℕ). start .args .n + k) (c .pair-number .ensures) ∙ row-pair (start .args .n) (start .args .lost) (omega arith)
 
 pub row-number-spec : {M : Type 1} → statement M
 row-number-spec =
-    tie.close
-    (tie.spec
-    cast-p
-    cast-q
-    returns
-    add-result
-    sub-result
-    sub-result-2
-    mul-result
-    add-result-2
-    sub-result-3
-    sub-result-4
-    add-result-3
-    returns-2)
+    tie.close (tie.spec cast-result returns pair-number-requires add-result returns-2)
