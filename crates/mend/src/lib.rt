@@ -277,8 +277,8 @@ fn repair_by(
     )
 }
 
-// Whether the placed lots have a repair for a loss that breaks them; if not, no super solution extends the order. Room is not asked, so that any words and
-// groups will do.
+// Whether the placed lots have a repair for a loss that breaks them; if not, no super solution extends the order. Room is not asked:
+// the words of the domains and groups that say nothing will do.
 pub fn has_repair(
     numbers: Numbers,
     domain: &[u16],
@@ -291,6 +291,7 @@ pub fn has_repair(
     requires { ⌜ Struck (week numbers (now domain) (now loss) (now give) (now ties)) (now order) (lotsOf lost) ⌝ }
     ensures { λ r. ⌜ Judges (week numbers (now (domain .entry)) (now (loss .entry)) (now (give .entry)) (now (ties .entry))) (now (order .entry)) (lotsOf lost) (r .is) ⌝ }
 {
+    let groups = [0u8; 24];
     repair_by(
         numbers,
         domain,
@@ -299,7 +300,7 @@ pub fn has_repair(
         ties,
         order,
         domain,
-        order,
+        &groups,
         false,
         lost,
     )

@@ -26,12 +26,16 @@ fn is_apart(n: u32, ties: &[u16], p: Lot, q: Lot) -> bool
     true
 }
 
-// A lot's group; 0 beyond the end.
+// A lot's group, which is a lot too: the lowest of it; lot 0 beyond the end. A list of groups is read here alone, as an order is by
+// `week::slot_in`.
 pub fn group_of(groups: &[u8], p: Lot) -> Lot
     ensures { λ r. ⌜ r .0 ≡ getD (now (groups .entry)) (p .0) 0 ⌝ }
 {
-    let g = week::slot_in(groups, p);
-    Lot(g.0)
+    let at = p.0 as usize;
+    if groups.len() <= at {
+        return Lot(0);
+    }
+    Lot(groups[at])
 }
 
 // Whether lot q does not keep lot p out of group g: it is not in it, or the two may never stand in one slot.
