@@ -11,6 +11,7 @@ pub struct Lot(pub u8);
 pub struct Slot(pub u8);
 
 // The six numbers of a week, wide enough to ask whether each is within its limits.
+#[repr(C)]
 pub struct Numbers {
     pub n: u32,
     pub a: u32,
