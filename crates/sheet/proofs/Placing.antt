@@ -3,10 +3,13 @@
 use mathlib.Core.Path.{_≡_, refl, sym, _∙_, ap}
 use mathlib.Core.Bool.{Bool, true, false, _&&_, _||_, not, or-true}
 use mathlib.Core.List.{List, [], _∷_}
-use Prim.Native.Nat.{ℕ, _<_}
+use Prim.Native.Nat.{ℕ, _≤_, _<_}
+use native.Mathlib.Omega.{arith}
+use native.Mathlib.Nat.{min-le-left}
+use native.Mathlib.Decide.{decLt}
 use lib.Dec.{eqb}
-use lib.ListN.{length, getD, set, length-set}
-use lib.Seq.{getD-set-same, getD-set-other, set-comm}
+use lib.ListN.{length, getD, set, take, length-set, length-take}
+use lib.Seq.{getD-set-same, getD-set-other, set-comm, set-out, take-set-le, take-set-lt}
 use borrow.Author.Tests.{eqb-true, eqb-false, eq-eqb, not-true}
 use Rattle.lex.specs.Every.{everyOf, someOf}
 use Rattle.lex.proofs.Every.{both, and-left, and-right, not-both, or-neither}
@@ -174,3 +177,16 @@ placed-either [] l s h = refl
 placed-either (x ∷ k) l s h =
     ap (placedAll k) (place-later l s (x .lot) (x .slot) (h (x .lot) (names-first x k (x .lot) refl)))
     ∙ placed-either k l (set s (x .lot) (x .slot)) (λ p e. h p (names-later x k p e))
+
+-- Moves put into the beginning of an order
+
+take-set : (n : ℕ) (s : List ℕ) (p v : ℕ) → take n (set s p v) ≡ set (take n s) p v
+take-set n s p v = elim (decLt p n) [
+  | yes h ↦ take-set-lt n s p v h
+  | no h ↦ take-set-le n s p v (omega arith) ∙ sym (set-out (take n s) p v (let l : length (take n s) ≤ n = rw length-take (min-le-left n (length s)) in omega arith))
+]
+
+pub placed-take : (l : List Move) (n : ℕ) (s : List ℕ) → take n (placedAll l s) ≡ placedAll l (take n s)
+unfolding placedAll
+placed-take [] n s = refl
+placed-take (x ∷ l) n s = placed-take l n (set s (x .lot) (x .slot)) ∙ ap (placedAll l) (take-set n s (x .lot) (x .slot))

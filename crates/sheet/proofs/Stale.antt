@@ -7,22 +7,23 @@ use mathlib.Core.List.{List, [], _∷_}
 use Prim.Native.Nat.{ℕ, _+_, _≤_, _<_}
 use native.Mathlib.Omega.{arith}
 use native.Mathlib.Decide.{decLt}
-use lib.Dec.{leb, ltb}
+use lib.Dec.{eqb, leb, ltb}
 use lib.ListN.{getD}
-use borrow.Author.Tests.{leb-false, lt-leb, ltb-true, eq-eqb, ne-eqb, not-false}
+use borrow.Author.Tests.{leb-false, lt-leb, ltb-true, eqb-true, eqb-false, eq-eqb, ne-eqb, not-false}
 use Rattle.lex.specs.Every.{everyOf}
 use Rattle.lex.proofs.Every.{and-left, false-of, not-both, or-neither, every-false, every-miss}
+use Rattle.week.specs.declared.Numbers.{Numbers}
 use Rattle.week.specs.Rules.{Rules, bitOf}
-use Rattle.week.specs.Tables.{Week, lots, pairRules}
-use Rattle.week.proofs.Tables.{accepted}
+use Rattle.week.specs.Tables.{Week, lots, pairRules, refusal}
+use Rattle.week.proofs.Tables.{accepted, admits-most}
 use Rattle.sheet.specs.declared.Sheet.{Sheet}
 use Rattle.sheet.specs.Moves.{movesOf, names, moveOk, movesOk, near, freshAt, freshLot, freshMove, fresh, stirs, placedAll}
-use Rattle.sheet.specs.Sheet.{stands, sound, resultOk, saveAnswer, withMoves, saved}
-use Rattle.sheet.specs.History.{Call, copying, saving, step, after, WellFormed, shifted, movedIn, Overtaken}
+use Rattle.sheet.specs.Sheet.{stands, sound, resultOk, saveAnswer, withMoves}
+use Rattle.sheet.specs.History.{lent, Save, Call, copying, saving, savedBy, step, after, WellFormed, shifted, movedIn, Overtaken}
 use Rattle.sheet.proofs.Moves.{taken-read}
-use Rattle.sheet.proofs.Services.{sound-good, Passed, save-passed, save-11, save-12, save-13, save-14, save-none}
+use Rattle.sheet.proofs.Services.{sound-good, Passed, save-early, save-11, save-12, save-13, save-14, save-none}
 use Rattle.sheet.proofs.Placing.{every-named, every-fails, placed-other, placed-stirs, marked-other, marked-named}
-use Rattle.sheet.proofs.Held.{Held, outcome, taken, refused, answered, mark-low, held-step, held-after}
+use Rattle.sheet.proofs.Held.{Held, same-rules, outcome, taken, refused, taken-passed, mark-low, held-step, held-after}
 
 -- What an accepted save moves: the lots that it names
 
@@ -103,33 +104,36 @@ shifted-none : (S T : Sheet) (p : ℕ) → T ≡ S → shifted S T p ≡ false
 unfolding shifted
 shifted-none S T p e = ap not (eq-eqb (getD (S .order) p 0) (getD (T .order) p 0) (sym (ap (λ (U : Sheet). getD (U .order) p 0) e)))
 
-module _ {W : Week} {S : Sheet} (held : Held W S) (c : ℕ) (m : List ℕ) (passed : Passed W S c m) (h : List Call) (p : ℕ) where
+module _ {W : Week} {S : Sheet} (held : Held W S) (x : Save) (passed : Passed W S (x .copy) (x .moves)) (h : List Call) (p : ℕ) where
+  abbrev m : List ℕ
+  m = x .moves
+
   -- an accepted save
-  save-went : step W S (saving c m) ≡ withMoves S m → Marked W (step W S (saving c m)) h p → Marked W S (saving c m ∷ h) p
+  save-went : step W S (saving x) ≡ withMoves S m → Marked W (step W S (saving x)) h p → Marked W S (saving x ∷ h) p
   save-went f r = go (names (movesOf m) p) refl
     where
-      more : step W S (saving c m) .saves ≡ S .saves + 1
+      more : step W S (saving x) .saves ≡ S .saves + 1
       more = ap (λ (U : Sheet). U .saves) f ∙ one-more S m
 
-      mark : {k : ℕ} → getD (withMoves S m .marks) p 0 ≡ k → getD (step W S (saving c m) .marks) p 0 ≡ k
+      mark : {k : ℕ} → getD (withMoves S m .marks) p 0 ≡ k → getD (step W S (saving x) .marks) p 0 ≡ k
       mark e = ap (λ (U : Sheet). getD (U .marks) p 0) f ∙ e
 
-      shifts : {b : Bool} → shifted S (withMoves S m) p ≡ b → shifted S (step W S (saving c m)) p ≡ b
+      shifts : {b : Bool} → shifted S (withMoves S m) p ≡ b → shifted S (step W S (saving x)) p ≡ b
       shifts e = ap (λ (U : Sheet). shifted S U p) f ∙ e
 
-      go : (b : Bool) → names (movesOf m) p ≡ b → Marked W S (saving c m ∷ h) p
-      go true e = call-shifts W S (saving c m) h p r (shifts (named-shifts held c m passed p e)) (let k = mark (named-mark held c m passed p e) in omega arith) (let k = more in omega arith) (named-below held c m passed p e)
-      go false e = call-stays W S (saving c m) h p r (shifts (other-stays held c m passed p e)) (mark (other-mark held c m passed p e)) (let k = more in omega arith)
+      go : (b : Bool) → names (movesOf m) p ≡ b → Marked W S (saving x ∷ h) p
+      go true e = call-shifts W S (saving x) h p r (shifts (named-shifts held (x .copy) m passed p e)) (let k = mark (named-mark held (x .copy) m passed p e) in omega arith) (let k = more in omega arith) (named-below held (x .copy) m passed p e)
+      go false e = call-stays W S (saving x) h p r (shifts (other-stays held (x .copy) m passed p e)) (mark (other-mark held (x .copy) m passed p e)) (let k = more in omega arith)
 
 pub marked : {W : Week} {S : Sheet} → Held W S → (h : List Call) (p : ℕ) → Marked W S h p
 unfolding after movedIn step
 marked {W} {S} held [] p = record { still = λ e. refl; later = λ e. absurd (not-both e refl); below = λ e. absurd (not-both e refl); up = omega arith }
-marked {W} {S} held (copying ∷ h) p = call-stays W S copying h p (marked held h p) (shifted-none S S p refl) refl (omega arith)
-marked {W} {S} held (saving c m ∷ h) p =
-    let r = marked (held-step held (saving c m)) h p in
-    elim (outcome W S c m) [
-      | taken e f ↦ save-went held c m (save-passed W S c m (answered W S c m e)) h p f r
-      | refused e f ↦ call-stays W S (saving c m) h p r (shifted-none S (saved W S c m .sheet) p f) (ap (λ (U : Sheet). getD (U .marks) p 0) f) (let s = ap (λ (U : Sheet). U .saves) f in omega arith)
+marked {W} {S} held (copying N ∷ h) p = call-stays W S (copying N) h p (marked held h p) (shifted-none S S p refl) refl (omega arith)
+marked {W} {S} held (saving x ∷ h) p =
+    let r = marked (held-step held (saving x)) h p in
+    elim (outcome W S x) [
+      | taken e f ↦ save-went held x (taken-passed W S x (held .week) e) h p f r
+      | refused e f ↦ call-stays W S (saving x) h p r (shifted-none S (savedBy W S x .sheet) p f) (ap (λ (U : Sheet). getD (U .marks) p 0) f) (let s = ap (λ (U : Sheet). U .saves) f in omega arith)
     ]
 
 -- Stale saves
@@ -144,12 +148,16 @@ module _ (R : Rules) (marks : List ℕ) (c p q : ℕ) where
   unfolding freshAt
   stale-make e l = rw (e, lt-leb (getD marks q 0) c l)
 
-module _ {W : Week} {S : Sheet} (held : Held W S) (g : List Call) (m : List ℕ) where
+-- a save with numbers N and moves m, from a copy taken on sheet S, when the calls g have come after that copy
+module _ {W : Week} {S : Sheet} (held : Held W S) (g : List Call) (N : Numbers) (m : List ℕ) where
   abbrev now : Sheet
   now = after W S g
 
+  abbrev U : Week
+  U = lent W N
+
   abbrev answer : ℕ
-  answer = saveAnswer W now (S .saves) m
+  answer = saveAnswer U now (S .saves) m
 
   abbrev young : Bool
   young = fresh (pairRules W) (now .marks) (S .saves) (movesOf m)
@@ -176,35 +184,52 @@ module _ {W : Week} {S : Sheet} (held : Held W S) (g : List Call) (m : List ℕ)
 
   module _ (well : WellFormed answer) where
     -- a well-formed save passes 1 to 11
+    week-passes : refusal U ≡ 0
+    week-passes = go (eqb (refusal U) 0) refl
+      where
+        go : (b : Bool) → eqb (refusal U) 0 ≡ b → refusal U ≡ 0
+        go true e = eqb-true (refusal U) 0 e
+        go false e = absurd (
+            let h = eqb-false (refusal U) 0 e in
+            let k = save-early U now (S .saves) m refl h in
+            let f = admits-most true true U in
+            well (omega arith) (omega arith))
+
     abbrev seen : Held W now
     seen = held-after held g
 
-    known : sound (pairRules W) now ≡ true
-    known = sym (sound-good (pairRules W) now (seen .sheet))
+    rule : pairRules U ≡ pairRules W
+    rule = same-rules W N (held .week) week-passes
+
+    known : sound (pairRules U) now ≡ true
+    known = ap (λ (R : Rules). sound R now) rule ∙ sym (sound-good (pairRules W) now (seen .sheet))
 
     past : S .saves ≤ now .saves
     past = marked held g 0 .up
 
-    right : movesOk (lots W) (W .domain) m ≡ true
-    right = go (movesOk (lots W) (W .domain) m) refl
+    right : movesOk (N .n) (W .domain) m ≡ true
+    right = go (movesOk (N .n) (W .domain) m) refl
       where
-        go : (b : Bool) → movesOk (lots W) (W .domain) m ≡ b → movesOk (lots W) (W .domain) m ≡ true
+        go : (b : Bool) → movesOk (N .n) (W .domain) m ≡ b → movesOk (N .n) (W .domain) m ≡ true
         go true e = e
-        go false e = absurd (let k = save-11 W now (S .saves) m (seen .week) known past e in well (omega arith) (omega arith))
+        go false e = absurd (let k = save-11 U now (S .saves) m week-passes known past e in well (omega arith) (omega arith))
 
     -- and then it is 12 exactly if it is stale
+    young-own : {b : Bool} → young ≡ b → fresh (pairRules U) (now .marks) (S .saves) (movesOf m) ≡ b
+    young-own e = ap (λ (R : Rules). fresh R (now .marks) (S .saves) (movesOf m)) rule ∙ e
+
     not-stale : young ≡ true → answer ≡ 12 → ⊥
-    not-stale f e = go (resultOk (pairRules W) (now .order) m) refl
+    not-stale f e = go (resultOk (pairRules U) (now .order) m) refl
       where
-        go : (b : Bool) → resultOk (pairRules W) (now .order) m ≡ b → ⊥
-        go false r = let k = save-13 W now (S .saves) m (seen .week) known past right f r in omega arith
+        go : (b : Bool) → resultOk (pairRules U) (now .order) m ≡ b → ⊥
+        go false r = let k = save-13 U now (S .saves) m week-passes known past right (young-own f) r in omega arith
         go true r = elim (decLt (now .saves) 65535) [
-          | yes l ↦ let k = save-none W now (S .saves) m (seen .week) known past right f r l in omega arith
-          | no l ↦ let k = save-14 W now (S .saves) m (seen .week) known past right f r (omega arith) in omega arith
+          | yes l ↦ let k = save-none U now (S .saves) m week-passes known past right (young-own f) r l in omega arith
+          | no l ↦ let k = save-14 U now (S .saves) m week-passes known past right (young-own f) r (omega arith) in omega arith
         ]
 
     pub stale-then : answer ≡ 12 → Overtaken W S g m
     stale-then e = stale-why (false-of young (λ t. not-stale t e))
 
     pub stale-if : Overtaken W S g m → answer ≡ 12
-    stale-if v = sym (save-12 W now (S .saves) m (seen .week) known past right (why-stale v))
+    stale-if v = sym (save-12 U now (S .saves) m week-passes known past right (young-own (why-stale v)))

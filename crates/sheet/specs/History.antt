@@ -1,26 +1,45 @@
--- Histories of one opened sheet: any sequence of copies and saves, by any number of desks, ill-formed and refused saves included, with
--- the same numbers and tables at every call. Which desk calls does not matter: any desk may save from any copy.
--- Assumes nothing.
+-- Histories of one opened sheet: any sequence of copies and saves, by any number of desks, ill-formed and refused calls included. The
+-- four tables are the same at every call; the six numbers are each call's own. Which desk calls does not matter: any desk may save from
+-- any copy. W is the week with which the sheet was opened. Assumes nothing.
 use mathlib.Core.Path.{_≡_}
 use mathlib.Core.Bool.{Bool, true, false, _&&_, _||_, not, cond}
 use mathlib.Core.List.{List, [], _∷_}
 use Prim.Native.Nat.{ℕ, _≤_}
 use lib.Dec.{eqb}
-use lib.ListN.{getD, take}
-use Rattle.week.specs.Tables.{Week, lots, pairRules}
+use lib.ListN.{length, getD, take}
+use Rattle.week.specs.declared.Numbers.{Numbers}
+use Rattle.week.specs.Tables.{Week, week, lots, pairRules}
 use Rattle.sheet.specs.declared.Sheet.{Sheet}
-use Rattle.sheet.specs.Moves.{movesOf, names, near}
+use Rattle.sheet.specs.declared.Saved.{Saved}
+use Rattle.sheet.specs.Moves.{movesOf, names, near, placedAll}
 use Rattle.sheet.specs.Sheet.{copied, saved}
 
--- a copy, or a save from a copy number with moves
+-- what a call is lent: its own numbers and the tables of W
+abbrev pub lent : Week → Numbers → Week
+lent W N = week N (W .domain) (W .loss) (W .give) (W .ties)
+
+-- a save as a desk sends it: its numbers, its copy number and its moves
+pub record Save : Type 0 where
+  pub numbers : Numbers
+  pub copy : ℕ
+  pub moves : List ℕ
+
+abbrev pub save : Numbers → ℕ → List ℕ → Save
+save N c m = record { numbers = N; copy = c; moves = m }
+
+-- a copy, with its numbers, or a save
 pub data Call : Type 0 where
-  copying : Call
-  saving : ℕ → List ℕ → Call
+  copying : Numbers → Call
+  saving : Save → Call
+
+-- what a save answers and leaves
+abbrev pub savedBy : Week → Sheet → Save → Saved
+savedBy W S x = saved (lent W (x .numbers)) S (x .copy) (x .moves)
 
 -- the sheet after one call
 unfoldable pub step : Week → Sheet → Call → Sheet
-step W S copying = S
-step W S (saving c m) = saved W S c m .sheet
+step W S (copying N) = S
+step W S (saving x) = savedBy W S x .sheet
 
 -- the sheet after a history; every beginning of a history is one, so what holds after each holds at every moment
 unfoldable pub after : Week → Sheet → List Call → Sheet
@@ -52,33 +71,47 @@ pub record Overtaken (W : Week) (S : Sheet) (h : List Call) (m : List ℕ) : Typ
   pub near : near (pairRules W) named lot ≡ true
   pub moved : movedIn W S h lot ≡ true
 
--- the answer to a save whose copy was taken after history h, made when the calls g had come after that copy
-abbrev pub answerFrom : Week → Sheet → List Call → List Call → List ℕ → ℕ
-answerFrom W S h g m = saved W (after W (after W S h) (copying ∷ g)) (copied W (after W S h) .copy) m .answer
+-- the answer to a save with numbers N and moves m from a copy of sheet S, taken with numbers M, when the calls g have come after that copy
+abbrev pub answerSince : Week → Sheet → Numbers → List Call → Numbers → List ℕ → ℕ
+answerSince W S M g N m = savedBy W (after W S (copying M ∷ g)) (save N (copied (lent W M) S .copy) m) .answer
 
--- the moves of the accepted saves of a history, one after another
-unfoldable pub acceptedIn : Week → Sheet → List Call → List (List ℕ)
+-- the accepted saves of a history, one after another
+unfoldable pub acceptedIn : Week → Sheet → List Call → List Save
 acceptedIn W S [] = []
-acceptedIn W S (copying ∷ h) = acceptedIn W S h
-acceptedIn W S (saving c m ∷ h) = let l = acceptedIn W (saved W S c m .sheet) h in cond (eqb (saved W S c m .answer) 0) (m ∷ l) l
+acceptedIn W S (copying N ∷ h) = acceptedIn W S h
+acceptedIn W S (saving x ∷ h) = let l = acceptedIn W (savedBy W S x .sheet) h in cond (eqb (savedBy W S x .answer) 0) (x ∷ l) l
 
--- saves one by one, each from a fresh copy: the sheet afterwards, and whether each is accepted
-unfoldable pub oneByOne : Week → Sheet → List (List ℕ) → Sheet
+-- an order with the moves of saves put in, one save after the other
+unfoldable pub putIn : List Save → List ℕ → List ℕ
+putIn [] s = s
+putIn (x ∷ l) s = putIn l (placedAll (movesOf (x .moves)) s)
+
+-- the end of a history of the sheet opened on order o: that order with the accepted saves' moves put in, and their number
+pub record Ended (W : Week) (o : List ℕ) (S : Sheet) (h : List Call) : Type 0 where
+  pub order : orderOf W (after W S h) ≡ putIn (acceptedIn W S h) o
+  pub saves : after W S h .saves ≡ length (acceptedIn W S h)
+
+-- a save made again: its own numbers and moves, from a fresh copy
+abbrev pub again : Week → Sheet → Save → Saved
+again W S x = savedBy W S (save (x .numbers) (copied (lent W (x .numbers)) S .copy) (x .moves))
+
+-- saves made again one by one: the sheet afterwards, and whether each is accepted
+unfoldable pub oneByOne : Week → Sheet → List Save → Sheet
 oneByOne W S [] = S
-oneByOne W S (m ∷ l) = oneByOne W (saved W S (copied W S .copy) m .sheet) l
+oneByOne W S (x ∷ l) = oneByOne W (again W S x .sheet) l
 
-unfoldable pub eachTaken : Week → Sheet → List (List ℕ) → Bool
+unfoldable pub eachTaken : Week → Sheet → List Save → Bool
 eachTaken W S [] = true
-eachTaken W S (m ∷ l) = eqb (saved W S (copied W S .copy) m .answer) 0 && eachTaken W (saved W S (copied W S .copy) m .sheet) l
+eachTaken W S (x ∷ l) = eqb (again W S x .answer) 0 && eachTaken W (again W S x .sheet) l
 
 -- the end of a history is that of its accepted saves one by one, each from a fresh copy and each accepted there
 pub record Replayed (W : Week) (S : Sheet) (h : List Call) : Type 0 where
   pub end : oneByOne W S (acceptedIn W S h) ≡ after W S h
   pub each : eachTaken W S (acceptedIn W S h) ≡ true
 
--- two saves on sheet S, moves l from copy b and then moves k from copy a: both accepted, and the end is as on sheet T but for the marks
-pub record OtherWay (W : Week) (S : Sheet) (a : ℕ) (k : List ℕ) (b : ℕ) (l : List ℕ) (T : Sheet) : Type 0 where
-  pub first : saved W S b l .answer ≡ 0
-  pub second : saved W (saved W S b l .sheet) a k .answer ≡ 0
-  pub order : saved W (saved W S b l .sheet) a k .sheet .order ≡ T .order
-  pub saves : saved W (saved W S b l .sheet) a k .sheet .saves ≡ T .saves
+-- two saves on sheet S, the later one y first and then x: both accepted, and the end is as on sheet T but for the marks
+pub record OtherWay (W : Week) (S : Sheet) (x y : Save) (T : Sheet) : Type 0 where
+  pub first : savedBy W S y .answer ≡ 0
+  pub second : savedBy W (savedBy W S y .sheet) x .answer ≡ 0
+  pub order : savedBy W (savedBy W S y .sheet) x .sheet .order ≡ T .order
+  pub saves : savedBy W (savedBy W S y .sheet) x .sheet .saves ≡ T .saves

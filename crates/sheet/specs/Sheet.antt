@@ -65,8 +65,8 @@ copyAnswer W S = orElse (refusal W) (unless (sound (pairRules W) S) 9)
 unfoldable pub copied : Week → Sheet → Copied
 copied W S = record {
   answer = copyAnswer W S;
-  order = cond (eqb (copyAnswer W S) 0) (padded 24 (take (lots W) (S .order))) zeros;
   copy = cond (eqb (copyAnswer W S) 0) (S .saves) 0;
+  order = cond (eqb (copyAnswer W S) 0) (padded 24 (take (lots W) (S .order))) zeros;
 }
 
 -- Save

@@ -25,16 +25,18 @@ pub struct Sheet {
 }
 
 // What open gives: refusal or 0, and the sheet, all 0 where refused.
+#[repr(C)]
 pub struct Opened {
     pub answer: u32,
     pub sheet: Sheet,
 }
 
-// What copy gives: refusal or 0, the order and its copy number, 0 where refused.
+// What copy gives: refusal or 0, the copy number and the order, 0 where refused.
+#[repr(C)]
 pub struct Copied {
     pub answer: u32,
-    pub order: [u8; 24],
     pub copy: u32,
+    pub order: [u8; 24],
 }
 
 // What a save gives by value: refusal or 0, and the sheet afterwards, as it was where refused.
@@ -182,23 +184,23 @@ impl Sheet {
         if judged != 0 {
             return Copied {
                 answer: judged,
-                order: [0; 24],
                 copy: 0,
+                order: [0; 24],
             };
         }
         if !is_sound(self, n, domain, ties) {
             return Copied {
                 answer: 9,
-                order: [0; 24],
                 copy: 0,
+                order: [0; 24],
             };
         }
         let order = self.order;
         let slots = pad(n, &order);
         Copied {
             answer: 0,
-            order: slots,
             copy: self.saves,
+            order: slots,
         }
     }
 }
@@ -444,14 +446,21 @@ fn answer_of(
     0
 }
 
+// The slots of a sheet with the moves put in, whatever it has saved before.
+fn put_in(sheet: Sheet, moves: &[u8]) -> [u8; 24]
+    ensures { λ r. ⌜ r ≡ placedAll (movesOf (now (moves .entry))) (sheet .order) ⌝ }
+{
+    let slots = sheet.order;
+    let placed = place(Order { slots }, moves);
+    placed.slots
+}
+
 // The sheet with the moves of an accepted save: one save more, and its number for a mark of every moved lot.
 fn moved(sheet: Sheet, moves: &[u8]) -> Sheet
     requires { ⌜ sheet .saves < 65535 ⌝ }
     ensures { λ r. ⌜ r ≡ withMoves sheet (now (moves .entry)) ⌝ }
 {
-    let slots = sheet.order;
-    let placed = place(Order { slots }, moves);
-    let order = placed.slots;
+    let order = put_in(sheet, moves);
     let saves = sheet.saves + 1;
     let old = sheet.marks;
     let marks = mark(old, moves, saves);

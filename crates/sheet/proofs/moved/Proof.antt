@@ -8,8 +8,8 @@ use Rattle.sheet.specs.Sheet.{withMoves}
 use Rattle.sheet.proofs.moved.Statement.{statement}
 use Rattle.sheet.proofs.moved.Tie as tie
 
-place-requires : tie.Need-place-requires
-place-requires c κs = search needs
+put-in-requires : tie.Need-put-in-requires
+put-in-requires c κs = search needs
 
 add-saves : tie.Need-add-saves
 add-saves c = search needs
@@ -19,7 +19,10 @@ mark-requires c κs = search needs
 
 returns : tie.Need-returns
 unfolding withMoves
-returns c = ap₂ (λ (o k : List ℕ). record { n = c .before .before .before .before .before .before .before .args .sheet .n; order = o; saves = c .before .before .before .before .before .before .before .args .sheet .saves + 1; marks = k }) (c .before .before .before .before .place .ensures) (c .mark .ensures)
+returns c =
+    let put = c .before .before .before in
+    let sheet = put .before .before .args .sheet in
+    ap₂ (λ (o k : List ℕ). record { n = sheet .n; order = o; saves = sheet .saves + 1; marks = k }) (put .put-in .ensures) (c .mark .ensures)
 
 pub moved-spec : {M : Type 1} → statement M
-moved-spec = tie.close (tie.spec place-requires add-saves mark-requires returns)
+moved-spec = tie.close (tie.spec put-in-requires add-saves mark-requires returns)
