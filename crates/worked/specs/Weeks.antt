@@ -1,21 +1,23 @@
 -- The worked weeks of document 01, marked (P) there, and the errors that look right: what is claimed of each week.
 -- proofs/Weeks.antt proves the whole table at once, by computation. Assumes nothing.
-use mathlib.Core.Bool.{Bool, true, false, _&&_, not}
+use mathlib.Core.Bool.{Bool, true, _&&_, not}
 use mathlib.Core.List.{List, [], _∷_, map, flatMap}
-use mathlib.Core.Option.{Option, none, some}
-use Prim.Native.Nat.{ℕ, zero, suc}
+use Prim.Native.Nat.{ℕ, zero, suc, _*_}
 use lib.Dec.{eqb, leb}
-use lib.ListN.{getD}
+use lib.ListN.{getD, replicate}
 use Rattle.lex.specs.Every.{everyOf}
 use Rattle.lex.specs.Lists.{same}
 use Rattle.week.specs.declared.Numbers.{Numbers}
 use Rattle.week.specs.Rules.{bitOf, wordOf}
-use Rattle.week.specs.Tables.{Week, week, refusal}
-use Rattle.repair.specs.Break.{lotsFrom}
-use Rattle.robust.specs.Super.{repairFor, isSuper, firstSuper, rows}
+use Rattle.week.specs.Tables.{Week, week, lots, refusal}
+use Rattle.pairs.specs.Pairs.{lotsFrom}
+use Rattle.repair.specs.Break.{rowCount}
+use Rattle.repair.specs.Service.{repairAnswer, repairOut}
+use Rattle.robust.specs.Super.{isSuper}
+use Rattle.solve.specs.Service.{solveAnswer, solveOrder, solveTable}
 use Rattle.sheet.specs.declared.Sheet.{Sheet}
-use Rattle.sheet.specs.Sheet.{opened, copied, saved}
-use Rattle.sheet.specs.History.{Call, copying, saving, after, orderOf}
+use Rattle.sheet.specs.Sheet.{opened, copied}
+use Rattle.sheet.specs.History.{lent, save, Call, copying, saving, savedBy, after, orderOf}
 
 -- Tables from a rule
 
@@ -54,6 +56,10 @@ three = 14 ∷ 14 ∷ 14 ∷ []
 unfoldable pub weekF : Numbers → List ℕ → Week
 weekF N loss = week N three loss three (tieTable 3 three inOrder)
 
+-- the numbers of every call on its sheet
+unfoldable pub ofF : Numbers
+ofF = numbers 3 1 0 0 0
+
 -- one lot, domain {3}
 unfoldable pub oneLot : List ℕ → Week
 oneLot loss = week (numbers 1 1 0 0 0) (8 ∷ []) loss (8 ∷ []) (tieTable 1 (8 ∷ []) (λ p v q w. true))
@@ -73,47 +79,52 @@ earlier = week (numbers 2 1 0 0 0) (14 ∷ 6 ∷ []) (2 ∷ 0 ∷ []) (14 ∷ 6 
     apart zero v q w = not (eqb v 2 && eqb w 1)
     apart (suc p) v q w = not (eqb v 1 && eqb w 2)
 
--- What is claimed
+-- What is claimed of a week, in the terms of the services
 
 pub data Claim : Type 0 where
   solves : List ℕ → List (List ℕ) → Claim
-  unsolved : Claim
+  refused : ℕ → Claim
   super : List ℕ → Claim
   notSuper : List ℕ → Claim
   repaired : List ℕ → List ℕ → List ℕ → Claim
   shared : List ℕ → List Call → List ℕ → List ℕ → ℕ → Claim
 
-unfoldable pub sameRows : List (List ℕ) → List (List ℕ) → Bool
-sameRows [] [] = true
-sameRows [] (r ∷ t) = false
-sameRows (r ∷ s) [] = false
-sameRows (r ∷ s) (q ∷ t) = same r q && sameRows s t
+-- buffers as a caller lends them, full of a number that is no slot
+unfoldable pub buffer : ℕ → List ℕ
+buffer k = replicate k 255
 
--- the answer is some order, which passes f
-unfoldable pub answers : (List ℕ → Bool) → Option (List ℕ) → Bool
-answers f none = false
-answers f (some s) = f s
+abbrev pub orderBuffer : Week → List ℕ
+orderBuffer W = buffer (lots W)
 
-unfoldable pub answersNone : Option (List ℕ) → Bool
-answersNone none = true
-answersNone (some s) = false
+abbrev pub tableBuffer : Week → List ℕ
+tableBuffer W = buffer (rowCount (lots W) (W .numbers .a) * lots W)
+
+-- solve answers k and leaves s and t in the buffers
+unfoldable pub answers : Week → ℕ → List ℕ → List ℕ → Bool
+answers W k s t =
+    eqb (solveAnswer W (orderBuffer W) (tableBuffer W)) k
+    && (same (solveOrder W (orderBuffer W) (tableBuffer W)) s && same (solveTable W (orderBuffer W) (tableBuffer W)) t)
+
+-- repair of order s for the lost lots answers k and leaves r in the buffer
+unfoldable pub repairs : Week → List ℕ → List ℕ → ℕ → List ℕ → Bool
+repairs W s lost k r = eqb (repairAnswer W s lost (orderBuffer W)) k && same (repairOut W s lost (orderBuffer W)) r
 
 -- what the calls on a sheet answer, a copy with its copy number behind its answer
 unfoldable pub replies : Week → Sheet → List Call → List ℕ
 replies W S [] = []
-replies W S (copying ∷ h) = copied W S .answer ∷ copied W S .copy ∷ replies W S h
-replies W S (saving c m ∷ h) = saved W S c m .answer ∷ replies W (saved W S c m .sheet) h
+replies W S (copying N ∷ h) = copied (lent W N) S .answer ∷ copied (lent W N) S .copy ∷ replies W S h
+replies W S (saving x ∷ h) = savedBy W S x .answer ∷ replies W (savedBy W S x .sheet) h
 
 -- a sheet that is not refused answers k and ends with order s and save number i
 unfoldable pub ends : Week → Sheet → List Call → List ℕ → List ℕ → ℕ → Bool
 ends W S h k s i = same (replies W S h) k && (same (orderOf W (after W S h)) s && eqb (after W S h .saves) i)
 
 unfoldable pub holds : Week → Claim → Bool
-holds W (solves s t) = answers (λ o. same o s && sameRows (rows W o) t) (firstSuper W)
-holds W unsolved = answersNone (firstSuper W)
+holds W (solves s t) = answers W 0 s (flatMap (λ r. r) t)
+holds W (refused k) = answers W k (orderBuffer W) (tableBuffer W)
 holds W (super s) = isSuper W s
 holds W (notSuper s) = not (isSuper W s)
-holds W (repaired s lost r) = answers (same r) (repairFor W s lost)
+holds W (repaired s lost r) = repairs W s lost 0 r
 holds W (shared o h k s i) = eqb (opened W o .answer) 0 && ends W (opened W o .sheet) h k s i
 
 pub record Worked : Type 0 where
@@ -147,12 +158,12 @@ worked =
     ∷ notSuper (1 ∷ 2 ∷ 2 ∷ [])
     ∷ [])
     -- (1,0) under alternative rule 1 with gap 0, and the same with lot 2's loss word 0
-    ∷ of (weekF (numbers 3 1 0 1 0) three) (unsolved ∷ [])
+    ∷ of (weekF (numbers 3 1 0 1 0) three) (refused 5 ∷ [])
     ∷ of (weekF (numbers 3 1 0 1 0) (14 ∷ 14 ∷ 0 ∷ []))
     (solves (1 ∷ 2 ∷ 3 ∷ []) ((2 ∷ 2 ∷ 3 ∷ []) ∷ (1 ∷ 3 ∷ 3 ∷ []) ∷ (1 ∷ 2 ∷ 3 ∷ []) ∷ [])
     ∷ [])
     -- one lot
-    ∷ of (oneLot (8 ∷ [])) (unsolved ∷ [])
+    ∷ of (oneLot (8 ∷ [])) (refused 5 ∷ [])
     ∷ of (oneLot (0 ∷ [])) (solves (3 ∷ []) ((3 ∷ []) ∷ []) ∷ [])
     -- source 001 at (1,0): no super solution uses slot 1, and the repairs need it
     ∷ of (twoLots 0)
@@ -167,14 +178,14 @@ worked =
     ∷ repaired (1 ∷ 2 ∷ []) (0 ∷ []) (2 ∷ 2 ∷ [])
     ∷ [])
     -- a sheet at 1 2 3 with two copies: lots 2 and 0 are not tied and move each from its copy; lot 1 is tied to lot 2 and comes too late
-    ∷ of (weekF (numbers 3 1 0 0 0) three)
+    ∷ of (weekF ofF three)
     (shared (1 ∷ 2 ∷ 3 ∷ [])
-    (copying ∷ copying ∷ saving 0 (2 ∷ 2 ∷ []) ∷ saving 0 (0 ∷ 2 ∷ []) ∷ [])
+    (copying ofF ∷ copying ofF ∷ saving (save ofF 0 (2 ∷ 2 ∷ [])) ∷ saving (save ofF 0 (0 ∷ 2 ∷ [])) ∷ [])
     (0 ∷ 0 ∷ 0 ∷ 0 ∷ 0 ∷ 0 ∷ [])
     (2 ∷ 2 ∷ 2 ∷ [])
     2
     ∷ shared (1 ∷ 2 ∷ 3 ∷ [])
-    (copying ∷ copying ∷ saving 0 (2 ∷ 2 ∷ []) ∷ saving 0 (1 ∷ 3 ∷ []) ∷ [])
+    (copying ofF ∷ copying ofF ∷ saving (save ofF 0 (2 ∷ 2 ∷ [])) ∷ saving (save ofF 0 (1 ∷ 3 ∷ [])) ∷ [])
     (0 ∷ 0 ∷ 0 ∷ 0 ∷ 0 ∷ 12 ∷ [])
     (1 ∷ 2 ∷ 2 ∷ [])
     1
