@@ -8,6 +8,7 @@ fn main() {
     let mut file = [0u8; 9217];
     let size = io::read_full(STDIN_FILENO, &mut file);
     let mut text = [0u8; 25600];
-    let end = print::plan_text(&file[..size], &mut text);
+    let printed = print::plan_text(&file[..size], &mut text);
+    let end = printed.length;
     io::write_all(STDOUT_FILENO, &text[..end]);
 }

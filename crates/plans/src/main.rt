@@ -15,7 +15,8 @@ fn case(name: &[u8]) {
     let size = io::read_full(fd, &mut file);
     libc::close(fd);
     let mut text = [0u8; 25600];
-    let end = print::plan_text(&file[..size], &mut text);
+    let printed = print::plan_text(&file[..size], &mut text);
+    let end = printed.length;
     io::write_all(STDOUT_FILENO, &text[..end]);
 }
 

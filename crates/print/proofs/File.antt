@@ -4,7 +4,7 @@ use mathlib.Core.Path.{_≡_, refl, sym, _∙_, ap}
 use mathlib.Core.Bool.{Bool, true, false, cond}
 use mathlib.Core.List.{List, [], _++_}
 use mathlib.Core.Option.{Option, none, some}
-use Prim.Native.Nat.{ℕ, zero, suc, _+_, _-_, _*_, _≤_}
+use Prim.Native.Nat.{ℕ, zero, suc, _-_, _*_, _≤_}
 use native.Mathlib.Omega.{arith}
 use native.Mathlib.Nat.{mul-le-mul}
 use lib.Dec.{eqb}
@@ -24,7 +24,7 @@ use Rattle.block.specs.Reading.{weekIn, fileRefusal, Given, given, givenWeek, r
 use Rattle.block.proofs.Checks.{Buffers, buffers-good}
 use Rattle.block.proofs.Given.{week-fine, read-file}
 use Rattle.block.proofs.Services.{read-answer, read-gives}
-use Rattle.print.specs.Text.{planAnswer, planText, planLines, refusedLine, room, printedLength, printedBuffer, Printed}
+use Rattle.print.specs.Text.{planAnswer, planText, planLines, refusedLine, room, printedAnswer, printedLength, printedBuffer, Printed}
 use Rattle.print.specs.Put.{Put, weekText}
 use Rattle.print.proofs.Put.{put-more}
 use Rattle.print.proofs.Sizes.{refused-most, table-most}
@@ -147,24 +147,25 @@ text-most F = go (fileRefusal F) refl
 
 module _ (F out : List ℕ) where
   -- a buffer of another length
-  pub printed-none : (length out ≡ room → ⊥) → Printed F out 0 out
-  unfolding printedLength printedBuffer
-  printed-none h = record { count = rw (ne-eqb (length out) room h); buffer = rw (ne-eqb (length out) room h) }
+  pub printed-none : (length out ≡ room → ⊥) → Printed F out 2 0 out
+  unfolding printedAnswer printedLength printedBuffer
+  printed-none h = record { answer = rw (ne-eqb (length out) room h); count = rw (ne-eqb (length out) room h); buffer = rw (ne-eqb (length out) room h) }
 
-  pub printed-text : {m o : List ℕ} {e : ℕ} → length out ≡ room → Put (planText F) 0 out e m → Put (replicate (length m - e) 0) e m (length m) o → Printed F out e o
-  unfolding printedLength printedBuffer padded
+  pub printed-text : {m o : List ℕ} {e : ℕ} → length out ≡ room → Put (planText F) 0 out e m → Put (replicate (length m - e) 0) e m (length m) o → Printed F out 0 e o
+  unfolding printedAnswer printedLength printedBuffer padded
   printed-text {m} {o} {e} h a b =
       let n : e ≡ length (planText F) = let x = a .ends in omega arith in
       let both = put-more a b in
       let all : o ≡ planText F ++ replicate (length m - e) 0 = sym (take-all (length m) o (let x = b .size in omega arith)) ∙ both .stands in
       let r : length m ≡ room = a .size ∙ h in
       record {
+        answer = rw (eq-eqb (length out) room h);
         count = rw (eq-eqb (length out) room h) n;
         buffer = rw (eq-eqb (length out) room h) (all ∙ rw (r, n));
       }
 
   -- the text lies within the buffer, whatever the buffer
-  pub printed-within : {r : ℕ} {o : List ℕ} → Printed F out r o → r ≤ length o
+  pub printed-within : {k r : ℕ} {o : List ℕ} → Printed F out k r o → r ≤ length o
   unfolding printedLength printedBuffer
   printed-within p = rw (p .count, p .buffer) (go (eqb (length out) room))
     where

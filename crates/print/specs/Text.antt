@@ -73,6 +73,10 @@ planText F = cond (eqb (planAnswer F) 0) (planLines (weekIn F) (orOld (firstSupe
 unfoldable pub room : ℕ
 room = 25600
 
+-- 2: a buffer of another length
+unfoldable pub printedAnswer : List ℕ → ℕ
+printedAnswer out = unless (eqb (length out) room) 2
+
 -- how many bytes of the buffer are text
 unfoldable pub printedLength : List ℕ → List ℕ → ℕ
 printedLength F out = cond (eqb (length out) room) (length (planText F)) 0
@@ -81,7 +85,8 @@ printedLength F out = cond (eqb (length out) room) (length (planText F)) 0
 unfoldable pub printedBuffer : List ℕ → List ℕ → List ℕ
 printedBuffer F out = cond (eqb (length out) room) (padded room (planText F)) out
 
--- printing the file F into the buffer `out` answers r and leaves o
-pub record Printed (F out : List ℕ) (r : ℕ) (o : List ℕ) : Type 0 where
+-- printing the file F into the buffer `out` answers k with length r and leaves o
+pub record Printed (F out : List ℕ) (k r : ℕ) (o : List ℕ) : Type 0 where
+  pub answer : k ≡ printedAnswer out
   pub count : r ≡ printedLength F out
   pub buffer : o ≡ printedBuffer F out

@@ -223,13 +223,22 @@ fn clear_from(at: usize, out: &mut [u8])
     }
 }
 
-// The text that is printed for a block file, into a lent buffer of 25,600 bytes, 0 behind it. Answers the text's length; a buffer
-// of another length stays as it is, and the answer is 0.
-pub fn plan_text(file: &[u8], out: &mut [u8]) -> usize
-    ensures { λ r. ⌜ Printed (now (file .entry)) (now (out .entry)) r (now (out .exit)) ⌝ }
+// What printing gives: 0 and how many bytes of the buffer are text; 2 and 0 where the buffer has a wrong length.
+pub struct Text {
+    pub answer: u32,
+    pub length: usize,
+}
+
+// The text that is printed for a block file, into a lent buffer of 25,600 bytes, 0 behind it. A buffer of another length is refused with
+// 2, and stays as it is; a file that is refused has a text that says so.
+pub fn plan_text(file: &[u8], out: &mut [u8]) -> Text
+    ensures { λ r. ⌜ Printed (now (file .entry)) (now (out .entry)) (r .answer) (r .length) (now (out .exit)) ⌝ }
 {
     if out.len() != 25600 {
-        return 0;
+        return Text {
+            answer: 2,
+            length: 0,
+        };
     }
     let mut domain = [0u16; 24];
     let mut loss = [0u16; 24];
@@ -237,5 +246,8 @@ pub fn plan_text(file: &[u8], out: &mut [u8]) -> usize
     let mut ties = [0u16; 9216];
     let end = put_file(file, &mut domain, &mut loss, &mut give, &mut ties, out);
     clear_from(end, out);
-    end
+    Text {
+        answer: 0,
+        length: end,
+    }
 }
