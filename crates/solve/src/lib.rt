@@ -16,6 +16,7 @@ ghost use Rattle.repair.specs.Found.{lotsOf};
 ghost use Rattle.robust.specs.Super.{rowOf, tableOf};
 
 // What check answers: refusal or 0, and with 7 the number of the first wrong row, which is 0 otherwise.
+#[repr(C)]
 pub struct Checked {
     pub answer: u32,
     pub row: u32,
