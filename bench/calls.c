@@ -23,7 +23,11 @@ static double time_of(void (*call)(uint32_t), uint32_t round)
     return took / calls * 1e6;
 }
 
-static void open_proved(uint32_t i) { (void)i, answers[0] = elurkantza_open(WEEK_OF(week), order, week.n, &sheet); }
+static void open_proved(uint32_t i)
+{
+    struct elurkantza_opened opened = elurkantza_open(WEEK_OF(week), order, week.n);
+    (void)i, answers[0] = opened.answer, sheet = opened.sheet;
+}
 static void open_plain(uint32_t i) { (void)i, answers[1] = plain_tables(&week); }
 
 static void repair_proved(uint32_t i)

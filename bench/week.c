@@ -10,7 +10,6 @@
 void week_load(const char *path, struct plain_week *week)
 {
     static uint8_t file[18 * 512 + 1];
-    uint32_t numbers[6];
     FILE *in = fopen(path, "rb");
     if (!in) {
         fprintf(stderr, "bench: cannot read '%s'\n", path);
@@ -19,13 +18,13 @@ void week_load(const char *path, struct plain_week *week)
     size_t len = fread(file, 1, sizeof file, in);
     fclose(in);
     memset(week, 0, sizeof *week);
-    uint32_t refused = elurkantza_read(file, len, numbers, 6, week->domain, 24, week->loss, 24, week->give, 24, week->ties, 9216);
-    if (refused) {
-        fprintf(stderr, "bench: '%s' is refused with %u\n", path, refused);
+    struct elurkantza_reading read = elurkantza_read(file, len, week->domain, 24, week->loss, 24, week->give, 24, week->ties, 9216);
+    if (read.answer) {
+        fprintf(stderr, "bench: '%s' is refused with %u\n", path, read.answer);
         exit(2);
     }
-    week->n = numbers[0], week->a = numbers[1], week->b = numbers[2];
-    week->alternative = numbers[3], week->gap = numbers[4], week->helper = numbers[5];
+    week->n = read.n, week->a = read.a, week->b = read.b;
+    week->alternative = read.alternative, week->gap = read.gap, week->helper = read.helper;
 }
 
 double seconds(void)

@@ -5,13 +5,13 @@
 #include <stdio.h>
 #include <string.h>
 
-static uint32_t numbers[6];
+static struct elurkantza_reading week;
 static uint16_t domain[24], loss[24], give[24], ties[9216];
 
 /* The week as every call takes it. */
-#define LOTS numbers[0]
+#define LOTS week.n
 #define WEEK                                                                     \
-    LOTS, numbers[1], numbers[2], numbers[3], numbers[4], numbers[5],            \
+    LOTS, week.a, week.b, week.alternative, week.gap, week.helper,               \
     domain, LOTS, loss, LOTS, give, LOTS, ties, (size_t)LOTS * LOTS * 16
 
 static int refused(const char *call, uint32_t number) {
@@ -50,14 +50,14 @@ int main(int count, char **words) {
     size_t length = fread(file, 1, sizeof file, in);
     fclose(in);
 
-    uint32_t answer = elurkantza_read(file, length, numbers, 6, domain, 24, loss, 24, give, 24, ties, 9216);
-    if (answer != 0)
-        return refused("read", answer);
+    week = elurkantza_read(file, length, domain, 24, loss, 24, give, 24, ties, 9216);
+    if (week.answer != 0)
+        return refused("read", week.answer);
 
-    uint32_t lots = LOTS, a = numbers[1];
+    uint32_t lots = LOTS, a = week.a;
     size_t rows = a == 0 ? 0 : a == 1 ? lots : lots + lots * (lots - 1) / 2;
     static uint8_t order[24], table[300 * 24];
-    answer = elurkantza_solve(WEEK, order, lots, table, rows * lots);
+    uint32_t answer = elurkantza_solve(WEEK, order, lots, table, rows * lots);
     if (answer != 0)
         return refused("solve", answer);
     printf("the plan:");
@@ -69,37 +69,35 @@ int main(int count, char **words) {
         print_slots(run);
     }
 
-    struct elurkantza_sheet sheet;
-    answer = elurkantza_open(WEEK, order, lots, &sheet);
-    if (answer != 0)
-        return refused("open", answer);
+    struct elurkantza_opened opened = elurkantza_open(WEEK, order, lots);
+    if (opened.answer != 0)
+        return refused("open", opened.answer);
+    struct elurkantza_sheet sheet = opened.sheet;
 
     /* both desks copy, and both mean to make the same move */
-    uint8_t first[24], second[24], move[2];
-    uint32_t first_copy, second_copy;
-    elurkantza_copy(WEEK, &sheet, first, 24, &first_copy);
-    elurkantza_copy(WEEK, &sheet, second, 24, &second_copy);
-    printf("both desks copy at save number %u\n", (unsigned)first_copy);
-    answer = find_move(&sheet, first_copy, move);
+    struct elurkantza_copied first = elurkantza_copy(WEEK, sheet), second = elurkantza_copy(WEEK, sheet);
+    uint8_t move[2];
+    printf("both desks copy at save number %u\n", (unsigned)first.copy);
+    answer = find_move(&sheet, first.copy, move);
     if (answer != 0) {
         printf("no lot can be moved on its own in this week\n");
         return 0;
     }
 
-    answer = elurkantza_save(WEEK, &sheet, first_copy, move, 2);
-    printf("the first desk moves lot %u from slot %u to slot %u: answer %u, the sheet is", move[0], first[move[0]], move[1], (unsigned)answer);
+    answer = elurkantza_save(WEEK, &sheet, first.copy, move, 2);
+    printf("the first desk moves lot %u from slot %u to slot %u: answer %u, the sheet is", move[0], first.order[move[0]], move[1], (unsigned)answer);
     print_slots(sheet.order);
 
     /* the second desk does not know, and would move the same lot back to where its copy has it */
-    uint8_t back[2] = {move[0], second[move[0]]};
-    answer = elurkantza_save(WEEK, &sheet, second_copy, back, 2);
+    uint8_t back[2] = {move[0], second.order[move[0]]};
+    answer = elurkantza_save(WEEK, &sheet, second.copy, back, 2);
     printf("the second desk moves lot %u to slot %u from its old copy: answer %u, the sheet is", back[0], back[1], (unsigned)answer);
     print_slots(sheet.order);
 
     /* it copies again, sees what was done, and may move it now */
-    elurkantza_copy(WEEK, &sheet, second, 24, &second_copy);
-    answer = elurkantza_save(WEEK, &sheet, second_copy, back, 2);
-    printf("from a new copy, number %u: answer %u, the sheet is", (unsigned)second_copy, (unsigned)answer);
+    second = elurkantza_copy(WEEK, sheet);
+    answer = elurkantza_save(WEEK, &sheet, second.copy, back, 2);
+    printf("from a new copy, number %u: answer %u, the sheet is", (unsigned)second.copy, (unsigned)answer);
     print_slots(sheet.order);
     return 0;
 }

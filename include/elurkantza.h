@@ -22,15 +22,15 @@
  * have lost their slots.
  *
  * Every call answers 0 if it is done, or the first of these numbers whose reason holds; read asks for 2, 15 (the length), 16 and 17 block
- * by block, 1, 15 (the need), 18, 3 and 4, in that order. Refused, a call leaves every buffer and the sheet as they were, and what it
- * gives through `row`, `copy`, `order24`, `numbers6` or open's `sheet` is 0 throughout.
+ * by block, 1, 15 (the need), 18, 3 and 4, in that order. Refused, a call leaves every byte that it is lent as it was, and what it gives
+ * by value beside its answer is 0 throughout, but for the row number with 7.
  *    1  a number is outside its limits; lost lots are not ascending, not below n, or too many (repair: none)
  *    2  a length is wrong
  *    3  a domain is empty, or a loss or give word has a slot outside it
  *    4  the tie table breaks its rules
  *    5  solve: no order survives every loss
  *    6  check, repair, open: the order breaks the rules
- *    7  check: a row is wrong; the number of the first one comes through `row`
+ *    7  check: a row is wrong; the number of the first one comes with it
  *    8  repair: there is none
  *    9  copy, save: the sheet is none of this week
  *   10  save: the copy number is above the sheet's save number
@@ -53,12 +53,35 @@
 extern "C" {
 #endif
 
-/* The sheet that the desks share. Lay it where all of them reach it, let open fill it, and change it by save alone; one call at a time. */
+/* The sheet that the desks share. Lay it where all of them reach it, put there what open gives, and change it by save alone; one call at
+ * a time. */
 struct elurkantza_sheet {
     uint32_t n;
     uint8_t order[24];  /* the slot of each lot; places beyond lot n - 1 mean nothing */
     uint32_t saves;     /* how many saves were accepted */
     uint32_t marks[24]; /* for each lot the save that last moved it, 0 if none */
+};
+
+/* What calls give by value: the answer, and behind it what they found, 0 where they are refused. */
+struct elurkantza_checked {
+    uint32_t answer;
+    uint32_t row; /* with 7 the first wrong row, 0 otherwise */
+};
+
+struct elurkantza_opened {
+    uint32_t answer;
+    struct elurkantza_sheet sheet;
+};
+
+struct elurkantza_copied {
+    uint32_t answer;
+    uint32_t copy;     /* the copy number, which a later save hands back */
+    uint8_t order[24]; /* 0 beyond lot n - 1 */
+};
+
+struct elurkantza_reading {
+    uint32_t answer;
+    uint32_t n, a, b, alternative, gap, helper;
 };
 
 /* A week, in front of a call's own arguments; also for functions of your own that hand one on. */
@@ -68,13 +91,14 @@ struct elurkantza_sheet {
     const uint16_t *give, size_t give_len, const uint16_t *ties, size_t ties_len
 
 /* Finds the first order that survives every loss of up to a lots, into `order` (n bytes), and for each loss the first order that repairs
- * it, into `table`; the row of a loss that cannot happen is the order itself. First: the smaller slot at the lowest lot that differs. */
+ * it, into `table`; the row of lots that cannot all be lost where they stand is the order itself. First: the smaller slot at the lowest
+ * lot that differs. */
 uint32_t elurkantza_solve(ELURKANTZA_WEEK, uint8_t *order, size_t order_len, uint8_t *table, size_t table_len);
 
-/* Judges an order and a table made anywhere. Done, the order survives every loss and each row is a repair of its loss, though it need
- * not be the first one. */
-uint32_t elurkantza_check(ELURKANTZA_WEEK, const uint8_t *order, size_t order_len, const uint8_t *table, size_t table_len,
-                          uint32_t *row);
+/* Judges an order and a table made anywhere. Done, the order survives every loss, the row of each loss is a repair of it, though it need
+ * not be the first one, and the row of lots that cannot all be lost where they stand equals the order. */
+struct elurkantza_checked elurkantza_check(ELURKANTZA_WEEK, const uint8_t *order, size_t order_len, const uint8_t *table,
+                                           size_t table_len);
 
 /* Finds the first repair of an order when one or two lots, ascending in `lost`, have lost their slots in fact, whatever a and the loss
  * words say. It goes into `out` (n bytes). */
@@ -85,22 +109,20 @@ uint32_t elurkantza_repair(ELURKANTZA_WEEK, const uint8_t *order, size_t order_l
 uint32_t elurkantza_row(uint32_t n, uint32_t a, const uint8_t *order, size_t order_len, const uint8_t *table, size_t table_len,
                         const uint8_t *lost, size_t lost_len, uint8_t *out, size_t out_len);
 
-/* Begins a sheet on an order: no saves, no marks. Whatever `sheet` held before is lost; refused, it is all 0. */
-uint32_t elurkantza_open(ELURKANTZA_WEEK, const uint8_t *order, size_t order_len, struct elurkantza_sheet *sheet);
+/* Begins a sheet on an order: no saves, no marks. */
+struct elurkantza_opened elurkantza_open(ELURKANTZA_WEEK, const uint8_t *order, size_t order_len);
 
-/* Takes a desk's copy: the order into `order24` (24 bytes, 0 beyond lot n - 1) and its copy number, which a later save hands back.
- * Refused, both are 0; only an `order24` of another length than 24 is left as it was. */
-uint32_t elurkantza_copy(ELURKANTZA_WEEK, const struct elurkantza_sheet *sheet, uint8_t *order24, size_t order24_len, uint32_t *copy);
+/* Takes a desk's copy: the order and its copy number. */
+struct elurkantza_copied elurkantza_copy(ELURKANTZA_WEEK, struct elurkantza_sheet sheet);
 
 /* Saves a desk's moves, byte pairs (lot, slot), made on the copy with number `copy`: all of them, or none if refused. */
 uint32_t elurkantza_save(ELURKANTZA_WEEK, struct elurkantza_sheet *sheet, uint32_t copy, const uint8_t *moves, size_t moves_len);
 
-/* Reads a block file. The six numbers go into `numbers6` in the order n, a, b, alternative, gap, helper; the words into buffers of 24, 24,
- * 24 and 9,216, those that are not used 0. The other calls take the first n, n, n and n * n * 16 of them. Refused, the numbers are 0 and
- * the tables as they were; a `numbers6` of another length than 6 is left as it was. */
-uint32_t elurkantza_read(const uint8_t *file, size_t file_len, uint32_t *numbers6, size_t numbers6_len,
-                         uint16_t *domain, size_t domain_len, uint16_t *loss, size_t loss_len,
-                         uint16_t *give, size_t give_len, uint16_t *ties, size_t ties_len);
+/* Reads a block file: its six numbers, and its words into buffers of 24, 24, 24 and 9,216, those that are not used 0. The other calls take
+ * the first n, n, n and n * n * 16 of them. */
+struct elurkantza_reading elurkantza_read(const uint8_t *file, size_t file_len, uint16_t *domain, size_t domain_len,
+                                          uint16_t *loss, size_t loss_len, uint16_t *give, size_t give_len,
+                                          uint16_t *ties, size_t ties_len);
 
 /* Writes the week's block file into `file`: blocks of 512 bytes with 504 of content each, for 6 + 6 * n + 16 * n * (n - 1) bytes. */
 uint32_t elurkantza_write(ELURKANTZA_WEEK, uint8_t *file, size_t file_len);

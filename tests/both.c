@@ -32,8 +32,8 @@ static uint64_t counts[SERVICES][NUMBERS];
 
 /* ---- Loans ---- */
 
-/* KEPT: an input, never written. LENT: written only if the call is not refused. GIVEN: takes a value, 0 if refused. */
-enum loan { KEPT, LENT, GIVEN };
+/* KEPT: an input, never written. LENT: written only if the call is not refused. */
+enum loan { KEPT, LENT };
 
 /* A lent buffer: where it lies in each program's room, and where its content goes back to. */
 struct part {
@@ -43,13 +43,22 @@ struct part {
     void *back;
 };
 
-enum { GUARD = 16, PARTS = 12, BYTES = 1 << 17 };
+/* What both programs give by value beside their answer, as bytes. */
+struct value {
+    const char *name;
+    size_t size;
+    uint8_t library[sizeof(struct elurkantza_sheet)], second[sizeof(struct elurkantza_sheet)];
+};
+
+enum { GUARD = 16, PARTS = 12, VALUES = 2, BYTES = 1 << 17 };
 
 /* The same loans thrice: as they were, as the library leaves them, as the second program leaves them. The rooms hold words
  * and numbers too, which want even places. */
 static _Alignas(16) uint8_t before[BYTES], library[BYTES], second[BYTES];
 static struct part parts[PARTS];
 static size_t part_count, used;
+static struct value values[VALUES];
+static size_t value_count;
 
 /* The call under way. */
 static enum service service;
@@ -67,7 +76,7 @@ static void begin(enum service called, const struct week *with)
 {
     service = called;
     week = with;
-    part_count = used = 0;
+    part_count = used = value_count = 0;
 }
 
 static size_t lend(const char *name, enum loan loan, size_t width, const void *content, size_t count, void *back)
@@ -112,6 +121,18 @@ static void hand_out(void)
 {
     memcpy(library, before, used);
     memcpy(second, before, used);
+}
+
+/* Notes what both programs gave by value. */
+static void give(const char *name, const void *library_value, const void *second_value, size_t size)
+{
+    struct value *value = &values[value_count++];
+    if (value_count > VALUES || size > sizeof value->library)
+        abort();
+    value->name = name;
+    value->size = size;
+    memcpy(value->library, library_value, size);
+    memcpy(value->second, second_value, size);
 }
 
 /* ---- Runs ---- */
@@ -172,6 +193,14 @@ static void print(const char *when, const uint8_t *room, const struct part *part
         print_part(when, room, part);
 }
 
+static void print_value(const char *whose, const struct value *value, const uint8_t *bytes)
+{
+    printf("  %-8s %s, given by value, bytes:", value->name, whose);
+    for (size_t i = 0; i < value->size; i++)
+        printf(" %u", bytes[i]);
+    printf("\n");
+}
+
 static void print_call(void)
 {
     if (service == ROW)
@@ -187,6 +216,10 @@ static void print_call(void)
             print("the library's", library, &parts[i]);
         if (memcmp(second + parts[i].at, before + parts[i].at, parts[i].size) != 0)
             print("the second program's", second, &parts[i]);
+    }
+    for (size_t i = 0; i < value_count; i++) {
+        print_value("the library's", &values[i], values[i].library);
+        print_value("the second program's", &values[i], values[i].second);
     }
 }
 
@@ -237,11 +270,12 @@ static void judge_refused(uint32_t number)
 {
     for (size_t i = 0; i < part_count; i++) {
         const struct part *part = &parts[i];
-        if (part->loan == LENT && memcmp(library + part->at, before + part->at, part->size) != 0)
+        if (memcmp(library + part->at, before + part->at, part->size) != 0)
             both_differ("refused %" PRIu32 ", the library wrote to '%s'", number, part->name);
-        if (part->loan == GIVEN && !(service == CHECK && number == 7) && !all_zero(library + part->at, part->size))
-            both_differ("refused %" PRIu32 ", the library's '%s' is not 0", number, part->name);
     }
+    for (size_t i = 0; i < value_count; i++)
+        if (!(service == CHECK && number == 7) && !all_zero(values[i].library, values[i].size))
+            both_differ("refused %" PRIu32 ", the library's '%s' is not 0", number, values[i].name);
 }
 
 static uint32_t settle(uint32_t number, uint32_t second_number)
@@ -256,8 +290,11 @@ static uint32_t settle(uint32_t number, uint32_t second_number)
         judge_refused(number);
     if (memcmp(library, second, used) != 0)
         both_differ("both answer %" PRIu32 " and leave different bytes", number);
+    for (size_t i = 0; i < value_count; i++)
+        if (memcmp(values[i].library, values[i].second, values[i].size) != 0)
+            both_differ("both answer %" PRIu32 " and give another '%s'", number, values[i].name);
     for (size_t i = 0; i < part_count; i++)
-        if (parts[i].loan == GIVEN || (parts[i].loan == LENT && number == 0))
+        if (parts[i].loan == LENT && number == 0)
             memcpy(parts[i].back, library + parts[i].at, parts[i].size);
     counts[service][number]++;
     return number;
@@ -266,7 +303,6 @@ static uint32_t settle(uint32_t number, uint32_t second_number)
 /* ---- The services ---- */
 
 #define WORDS(room, place) ((uint16_t *)(void *)((room) + (place)))
-#define NUMBER(room, place) ((uint32_t *)(void *)((room) + (place)))
 #define SHEET(room, place) ((struct elurkantza_sheet *)(void *)((room) + (place)))
 
 /* The numbers and tables of the week, the tables from one program's room. */
@@ -286,17 +322,19 @@ uint32_t both_solve(const struct week *with, uint8_t *order, size_t order_len, u
                   second_solve(WEEK_IN(second), second + o, order_len, second + t, table_len));
 }
 
-uint32_t both_check(const struct week *with, const uint8_t *order, size_t order_len, const uint8_t *table,
-                    size_t table_len, uint32_t *row)
+struct elurkantza_checked both_check(const struct week *with, const uint8_t *order, size_t order_len,
+                                     const uint8_t *table, size_t table_len)
 {
     begin(CHECK, with);
     struct tables at = keep_tables();
     size_t o = keep("order", 1, order, order_len);
     size_t t = keep("table", 1, table, table_len);
-    size_t r = lend("row", GIVEN, 4, row, 1, row);
     hand_out();
-    return settle(elurkantza_check(WEEK_IN(library), library + o, order_len, library + t, table_len, NUMBER(library, r)),
-                  second_check(WEEK_IN(second), second + o, order_len, second + t, table_len, NUMBER(second, r)));
+    struct elurkantza_checked ours = elurkantza_check(WEEK_IN(library), library + o, order_len, library + t, table_len);
+    struct elurkantza_checked theirs = second_check(WEEK_IN(second), second + o, order_len, second + t, table_len);
+    give("row", &ours.row, &theirs.row, sizeof ours.row);
+    settle(ours.answer, theirs.answer);
+    return ours;
 }
 
 uint32_t both_repair(const struct week *with, const uint8_t *order, size_t order_len, const uint8_t *lost,
@@ -330,29 +368,32 @@ uint32_t both_row(uint32_t n, uint32_t a, const uint8_t *order, size_t order_len
                              out_len));
 }
 
-uint32_t both_open(const struct week *with, const uint8_t *order, size_t order_len, struct elurkantza_sheet *sheet)
+struct elurkantza_opened both_open(const struct week *with, const uint8_t *order, size_t order_len)
 {
     begin(OPEN, with);
     struct tables at = keep_tables();
     size_t o = keep("order", 1, order, order_len);
-    size_t s = lend("sheet", GIVEN, sizeof *sheet, sheet, 1, sheet);
     hand_out();
-    return settle(elurkantza_open(WEEK_IN(library), library + o, order_len, SHEET(library, s)),
-                  second_open(WEEK_IN(second), second + o, order_len, SHEET(second, s)));
+    struct elurkantza_opened ours = elurkantza_open(WEEK_IN(library), library + o, order_len);
+    struct elurkantza_opened theirs = second_open(WEEK_IN(second), second + o, order_len);
+    give("sheet", &ours.sheet, &theirs.sheet, sizeof ours.sheet);
+    settle(ours.answer, theirs.answer);
+    return ours;
 }
 
-uint32_t both_copy(const struct week *with, const struct elurkantza_sheet *sheet, uint8_t *order24, size_t order24_len,
-                   uint32_t *copy)
+/* The sheet goes over by value; it is kept in the rooms too, so that it is printed with a difference. */
+struct elurkantza_copied both_copy(const struct week *with, struct elurkantza_sheet sheet)
 {
     begin(COPY, with);
     struct tables at = keep_tables();
-    size_t s = keep("sheet", sizeof *sheet, sheet, 1);
-    size_t o = lend_bytes("order24", order24_len == MOST_LOTS ? GIVEN : LENT, order24, order24_len);
-    size_t c = lend("copy", GIVEN, 4, copy, 1, copy);
+    size_t s = keep("sheet", sizeof sheet, &sheet, 1);
     hand_out();
-    return settle(
-        elurkantza_copy(WEEK_IN(library), SHEET(library, s), library + o, order24_len, NUMBER(library, c)),
-        second_copy(WEEK_IN(second), SHEET(second, s), second + o, order24_len, NUMBER(second, c)));
+    struct elurkantza_copied ours = elurkantza_copy(WEEK_IN(library), *SHEET(library, s));
+    struct elurkantza_copied theirs = second_copy(WEEK_IN(second), *SHEET(second, s));
+    give("copy", &ours.copy, &theirs.copy, sizeof ours.copy);
+    give("order", ours.order, theirs.order, sizeof ours.order);
+    settle(ours.answer, theirs.answer);
+    return ours;
 }
 
 uint32_t both_save(const struct week *with, struct elurkantza_sheet *sheet, uint32_t copy, const uint8_t *moves,
@@ -368,30 +409,30 @@ uint32_t both_save(const struct week *with, struct elurkantza_sheet *sheet, uint
                   second_save(WEEK_IN(second), SHEET(second, s), copy, second + m, moves_len));
 }
 
-void reading_clear(struct reading *reading)
+void buffers_fill(struct buffers *buffers)
 {
-    memset(reading, 0xc3, sizeof *reading);
-    reading->numbers_len = 6;
-    reading->domain_len = reading->loss_len = reading->give_len = MOST_LOTS;
-    reading->ties_len = MOST_TIE_WORDS;
+    memset(buffers, 0xc3, sizeof *buffers);
+    buffers->domain_len = buffers->loss_len = buffers->give_len = MOST_LOTS;
+    buffers->ties_len = MOST_TIE_WORDS;
 }
 
-#define READING_IN(room)                                                                                               \
-    NUMBER(room, n), to->numbers_len, WORDS(room, d), to->domain_len, WORDS(room, l), to->loss_len,                    \
-        WORDS(room, g), to->give_len, WORDS(room, t), to->ties_len
+#define BUFFERS_IN(room)                                                                                               \
+    WORDS(room, d), to->domain_len, WORDS(room, l), to->loss_len, WORDS(room, g), to->give_len, WORDS(room, t), to->ties_len
 
-uint32_t both_read(const uint8_t *file, size_t file_len, struct reading *to)
+struct elurkantza_reading both_read(const uint8_t *file, size_t file_len, struct buffers *to)
 {
     begin(READ, NULL);
     size_t f = keep("file", 1, file, file_len);
-    size_t n = lend("numbers6", to->numbers_len == 6 ? GIVEN : LENT, 4, to->numbers, to->numbers_len, to->numbers);
     size_t d = lend("domain", LENT, 2, to->domain, to->domain_len, to->domain);
     size_t l = lend("loss", LENT, 2, to->loss, to->loss_len, to->loss);
     size_t g = lend("give", LENT, 2, to->give, to->give_len, to->give);
     size_t t = lend("ties", LENT, 2, to->ties, to->ties_len, to->ties);
     hand_out();
-    return settle(elurkantza_read(library + f, file_len, READING_IN(library)),
-                  second_read(second + f, file_len, READING_IN(second)));
+    struct elurkantza_reading ours = elurkantza_read(library + f, file_len, BUFFERS_IN(library));
+    struct elurkantza_reading theirs = second_read(second + f, file_len, BUFFERS_IN(second));
+    give("numbers", &ours.n, &theirs.n, sizeof ours - sizeof ours.answer);
+    settle(ours.answer, theirs.answer);
+    return ours;
 }
 
 uint32_t both_write(const struct week *with, uint8_t *file, size_t file_len)

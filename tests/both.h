@@ -6,7 +6,7 @@
  * service; bytes around the buffers and inputs stay as they were; refused, lent buffers stay as they were and what comes by
  * value is 0.
  *
- * A buffer's content is lent as it stands, and what the call leaves in it is handed back. */
+ * A buffer's content is lent as it stands, and what the call leaves in it is handed back; what comes by value is handed on. */
 #ifndef BOTH_H
 #define BOTH_H
 
@@ -15,28 +15,26 @@
 
 enum service { SOLVE, CHECK, REPAIR, ROW, OPEN, COPY, SAVE, READ, WRITE, SERVICES };
 
-/* What a file is read into. The lengths are those that are lent, right or wrong. */
-struct reading {
-    uint32_t numbers[8];
+/* What a file's tables are read into. The lengths are those that are lent, right or wrong. */
+struct buffers {
     uint16_t domain[ROOM], loss[ROOM], give[ROOM], ties[MOST_TIE_WORDS + SLOTS];
-    size_t numbers_len, domain_len, loss_len, give_len, ties_len;
+    size_t domain_len, loss_len, give_len, ties_len;
 };
 
-void reading_clear(struct reading *reading); /* right lengths, and no content that a file could give */
+void buffers_fill(struct buffers *buffers); /* right lengths, and full of content that no file could give */
 
 uint32_t both_solve(const struct week *week, uint8_t *order, size_t order_len, uint8_t *table, size_t table_len);
-uint32_t both_check(const struct week *week, const uint8_t *order, size_t order_len, const uint8_t *table,
-                    size_t table_len, uint32_t *row);
+struct elurkantza_checked both_check(const struct week *week, const uint8_t *order, size_t order_len,
+                                     const uint8_t *table, size_t table_len);
 uint32_t both_repair(const struct week *week, const uint8_t *order, size_t order_len, const uint8_t *lost,
                      size_t lost_len, uint8_t *out, size_t out_len);
 uint32_t both_row(uint32_t n, uint32_t a, const uint8_t *order, size_t order_len, const uint8_t *table,
                   size_t table_len, const uint8_t *lost, size_t lost_len, uint8_t *out, size_t out_len);
-uint32_t both_open(const struct week *week, const uint8_t *order, size_t order_len, struct elurkantza_sheet *sheet);
-uint32_t both_copy(const struct week *week, const struct elurkantza_sheet *sheet, uint8_t *order24, size_t order24_len,
-                   uint32_t *copy);
+struct elurkantza_opened both_open(const struct week *week, const uint8_t *order, size_t order_len);
+struct elurkantza_copied both_copy(const struct week *week, struct elurkantza_sheet sheet);
 uint32_t both_save(const struct week *week, struct elurkantza_sheet *sheet, uint32_t copy, const uint8_t *moves,
                    size_t moves_len);
-uint32_t both_read(const uint8_t *file, size_t file_len, struct reading *reading);
+struct elurkantza_reading both_read(const uint8_t *file, size_t file_len, struct buffers *buffers);
 uint32_t both_write(const struct week *week, uint8_t *file, size_t file_len);
 
 /* How a run with chance is called: SEED COUNT [FIRST]. With FIRST it repeats a part of another run, and is not asked how often

@@ -204,7 +204,6 @@ static void try_solve(void)
 static void try_check(bool right)
 {
     uint8_t order[ORDER_ROOM], table[TABLE_ROOM];
-    uint32_t row = 77;
     memcpy(order, plan.order, sizeof order);
     memcpy(table, plan.table, table_length() + 1);
     if (right) {
@@ -212,8 +211,8 @@ static void try_check(bool right)
         if (one_in(&chance, 8))
             order_input(order);
     }
-    uint32_t number = both_check(&week, order, order_length(week.n), table, some_length(table_length()), &row);
-    if (number == 0 && memcmp(table, plan.table, table_length()) != 0)
+    struct elurkantza_checked checked = both_check(&week, order, order_length(week.n), table, some_length(table_length()));
+    if (checked.answer == 0 && memcmp(table, plan.table, table_length()) != 0)
         other_rows_accepted++;
 }
 
@@ -245,22 +244,13 @@ static void try_row(void)
     both_row(n, a, order, order_len, table, table_len, lost, lost_len, out, out_len);
 }
 
-static void try_open(bool right, struct elurkantza_sheet *sheet)
+static struct elurkantza_opened try_open(bool right)
 {
     uint8_t order[ORDER_ROOM];
     memcpy(order, plan.order, sizeof order);
     if (right)
         order_input(order);
-    fill(&chance, sheet, sizeof *sheet);
-    both_open(&week, order, order_length(week.n), sheet);
-}
-
-static void try_copy(const struct elurkantza_sheet *sheet)
-{
-    uint8_t order24[ORDER_ROOM];
-    uint32_t copy = 77;
-    fill(&chance, order24, sizeof order24);
-    both_copy(&week, sheet, order24, some_length(MOST_LOTS), &copy);
+    return both_open(&week, order, order_length(week.n));
 }
 
 static void try_save(bool right, struct elurkantza_sheet *sheet)
@@ -300,17 +290,17 @@ static void damage_sheet(struct elurkantza_sheet *sheet)
 
 static void try_sheets(void)
 {
-    struct elurkantza_sheet sheet;
-    try_open(true, &sheet);
-    if (sheet.n == 0)
+    struct elurkantza_opened opened = try_open(true);
+    struct elurkantza_sheet sheet = opened.sheet;
+    if (opened.answer != 0)
         made_up_sheet(&sheet);
-    try_copy(&sheet);
+    both_copy(&week, sheet);
     for (int i = 0; i < 3; i++)
         try_save(true, &sheet);
     made_up_sheet(&sheet);
     if (one_in(&chance, 4))
         damage_sheet(&sheet);
-    try_copy(&sheet);
+    both_copy(&week, sheet);
     for (int i = 0; i < 2; i++)
         try_save(true, &sheet);
 }
@@ -322,27 +312,25 @@ static void try_write(uint8_t *file)
     both_write(&week, file, some_length(right));
 }
 
-static void wrong_reading_length(struct reading *reading)
+static void wrong_buffer_length(struct buffers *buffers)
 {
-    size_t *lengths[5] = {
-        &reading->numbers_len, &reading->domain_len, &reading->loss_len, &reading->give_len, &reading->ties_len,
-    };
-    size_t *length = lengths[below(&chance, 5)];
+    size_t *lengths[4] = {&buffers->domain_len, &buffers->loss_len, &buffers->give_len, &buffers->ties_len};
+    size_t *length = lengths[below(&chance, 4)];
     *length = one_in(&chance, 3) ? 0 : one_in(&chance, 2) ? *length - 1 : *length + 1;
 }
 
 static void try_files(void)
 {
     static uint8_t file[FILE_ROOM];
-    static struct reading reading;
+    static struct buffers buffers;
     size_t len = file_size_of(week.n);
     try_write(file);
     both_write(&week, file, len);
     for (uint32_t damages = 0; damages < 3; damages++) {
-        reading_clear(&reading);
+        buffers_fill(&buffers);
         if (one_in(&chance, 20))
-            wrong_reading_length(&reading);
-        both_read(file, len, &reading);
+            wrong_buffer_length(&buffers);
+        both_read(file, len, &buffers);
         file_damage(&chance, file, &len, week.n);
     }
 }
@@ -422,9 +410,9 @@ static void try_damaged(bool with_search)
         try_repair(false);
     }
     try_check(false);
-    try_copy(&sheet);
+    both_copy(&week, sheet);
     try_save(false, &sheet);
-    try_open(false, &sheet);
+    try_open(false);
     try_write(file);
     week_copy(&week, &whole);
 }

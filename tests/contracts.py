@@ -1,7 +1,8 @@
 """Every public function has a contract on its result, a row in docs/contracts.md, and at least two must-fail edits.
 
-A function with a `requires` must be marked 'inner' in its row: it is shared among the crates, and no caller outside sees it.
-Prints what is lacking, and last 'N passed, M failed', a count over the public functions and the rows.
+A function with a `requires` must be marked 'inner' in its row: it is shared among the crates, and no caller outside sees it. Every file
+that README.md and docs/ name is there. Prints what is lacking, and last 'N passed, M failed', a count over the public functions, the
+rows and the documents.
 """
 import glob
 import os
@@ -45,6 +46,15 @@ def edits_of(row, crate, root):
     return [n for n in names if os.path.exists(f"{root}/crates/{crate}/must-fail/{n}.edit")], names
 
 
+def missing_files(root, document):
+    """The files that a document names in backquotes and that are not there; a bare name may stand in any crate."""
+    there = {os.path.basename(p) for p in glob.glob(f"{root}/crates/**/*.*", recursive=True)}
+    for name in sorted(set(re.findall(r"`([\w./-]+\.(?:antt|rt|c|h|md|py))`", open(document, encoding="utf-8").read()))):
+        places = [f"{root}/{name}", f"{root}/crates/{name}", f"{os.path.dirname(document)}/{name}"]
+        if not any(os.path.exists(p) for p in places) and not ("/" not in name and name in there):
+            yield name
+
+
 def main():
     root = os.path.join(os.path.dirname(os.path.abspath(__file__)), "..")
     rows = dict(ROW.findall(open(f"{root}/docs/contracts.md", encoding="utf-8").read()))
@@ -71,6 +81,12 @@ def main():
             passed += 1
     for name in sorted(set(rows) - seen):
         lacking.append(f"{name}: docs/contracts.md has a row, and there is no such public function")
+    for document in [f"{root}/README.md"] + sorted(glob.glob(f"{root}/docs/**/*.md", recursive=True)):
+        missing = list(missing_files(root, document))
+        if missing:
+            lacking.append(f"{os.path.relpath(document, root)} names files that are not there: " + ", ".join(missing))
+        else:
+            passed += 1
     for line in lacking:
         print(line)
     print(f"{passed} passed, {len(lacking)} failed")

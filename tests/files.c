@@ -14,18 +14,18 @@
 
 static struct chance chance;
 static struct week week;
-static struct reading reading;
+static struct elurkantza_reading reading;
+static struct buffers buffers;
 
-/* Reads into buffers without any content that a file could give; a refused read leaves them so, but for the numbers. */
+/* Reads into buffers full of content that no file could give; a refused read leaves them so. */
 static uint32_t read_file(const uint8_t *file, size_t len)
 {
-    static bool clear;
-    if (!clear)
-        reading_clear(&reading);
-    memset(reading.numbers, 0xc3, sizeof reading.numbers);
-    uint32_t number = both_read(file, len, &reading);
-    clear = number != 0;
-    return number;
+    static bool full;
+    if (!full)
+        buffers_fill(&buffers);
+    reading = both_read(file, len, &buffers);
+    full = reading.answer != 0;
+    return reading.answer;
 }
 
 /* Writes the week at hand into a buffer of FILE_ROOM bytes and gives the file's length. */
@@ -51,28 +51,28 @@ static bool same_and_then_zero(const uint16_t *got, size_t got_len, const uint16
 /* What was written, read: the numbers and tables of the week and nothing beyond them. */
 static void judge_reading(void)
 {
-    const uint32_t numbers[6] = {week.n, week.a, week.b, week.alternative, week.gap, week.helper};
-    if (memcmp(reading.numbers, numbers, sizeof numbers) != 0)
+    if (reading.n != week.n || reading.a != week.a || reading.b != week.b || reading.alternative != week.alternative ||
+        reading.gap != week.gap || reading.helper != week.helper)
         both_differ("reading what was written gives other numbers");
-    if (!same_and_then_zero(reading.domain, MOST_LOTS, week.domain, week.n) ||
-        !same_and_then_zero(reading.loss, MOST_LOTS, week.loss, week.n) ||
-        !same_and_then_zero(reading.give, MOST_LOTS, week.give, week.n) ||
-        !same_and_then_zero(reading.ties, MOST_TIE_WORDS, week.ties, week.ties_len))
+    if (!same_and_then_zero(buffers.domain, MOST_LOTS, week.domain, week.n) ||
+        !same_and_then_zero(buffers.loss, MOST_LOTS, week.loss, week.n) ||
+        !same_and_then_zero(buffers.give, MOST_LOTS, week.give, week.n) ||
+        !same_and_then_zero(buffers.ties, MOST_TIE_WORDS, week.ties, week.ties_len))
         both_differ("reading what was written gives other tables");
 }
 
 /* Takes over what was read as the week at hand. */
 static void week_from_reading(void)
 {
-    uint32_t n = reading.numbers[0];
-    week_plain(&week, n, reading.numbers[1], reading.numbers[2], 1);
-    week.alternative = reading.numbers[3];
-    week.gap = reading.numbers[4];
-    week.helper = reading.numbers[5];
-    memcpy(week.domain, reading.domain, n * sizeof *week.domain);
-    memcpy(week.loss, reading.loss, n * sizeof *week.loss);
-    memcpy(week.give, reading.give, n * sizeof *week.give);
-    memcpy(week.ties, reading.ties, week.ties_len * sizeof *week.ties);
+    uint32_t n = reading.n;
+    week_plain(&week, n, reading.a, reading.b, 1);
+    week.alternative = reading.alternative;
+    week.gap = reading.gap;
+    week.helper = reading.helper;
+    memcpy(week.domain, buffers.domain, n * sizeof *week.domain);
+    memcpy(week.loss, buffers.loss, n * sizeof *week.loss);
+    memcpy(week.give, buffers.give, n * sizeof *week.give);
+    memcpy(week.ties, buffers.ties, week.ties_len * sizeof *week.ties);
 }
 
 /* A file that is read, written again, gives back its bytes. */

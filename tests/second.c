@@ -304,22 +304,19 @@ static bool row_right(const struct week *week, const uint8_t *order, struct lost
     return memcmp(row, order, week->n) == 0;
 }
 
-uint32_t second_check(ELURKANTZA_WEEK, const uint8_t *order, size_t order_len, const uint8_t *table, size_t table_len,
-                      uint32_t *row)
+struct elurkantza_checked second_check(ELURKANTZA_WEEK, const uint8_t *order, size_t order_len, const uint8_t *table,
+                                       size_t table_len)
 {
     const struct week week = LENT_WEEK;
-    *row = 0;
     uint32_t refused = week_refusal(&week, true, order_len == n && table_len == row_count(n, a) * n);
     if (refused != 0)
-        return refused;
+        return (struct elurkantza_checked){refused, 0};
     if (!keeps_the_rules(&week, order))
-        return 6;
+        return (struct elurkantza_checked){6, 0};
     for (size_t at = 0; at < row_count(n, a); at++)
-        if (!row_right(&week, order, set_of_row(n, at), table + at * n)) {
-            *row = (uint32_t)at;
-            return 7;
-        }
-    return 0;
+        if (!row_right(&week, order, set_of_row(n, at), table + at * n))
+            return (struct elurkantza_checked){7, (uint32_t)at};
+    return (struct elurkantza_checked){0, 0};
 }
 
 uint32_t second_repair(ELURKANTZA_WEEK, const uint8_t *order, size_t order_len, const uint8_t *lost, size_t lost_len,
@@ -407,35 +404,32 @@ static bool moves_sound(const struct week *week, const struct elurkantza_sheet *
     return keeps_the_rules(week, order);
 }
 
-uint32_t second_open(ELURKANTZA_WEEK, const uint8_t *order, size_t order_len, struct elurkantza_sheet *sheet)
+struct elurkantza_opened second_open(ELURKANTZA_WEEK, const uint8_t *order, size_t order_len)
 {
     const struct week week = LENT_WEEK;
-    memset(sheet, 0, sizeof *sheet);
-    uint32_t refused = week_refusal(&week, true, order_len == n);
-    if (refused != 0)
-        return refused;
-    if (!keeps_the_rules(&week, order))
-        return 6;
-    sheet->n = n;
-    memcpy(sheet->order, order, n);
-    return 0;
+    struct elurkantza_opened opened = {0};
+    opened.answer = week_refusal(&week, true, order_len == n);
+    if (opened.answer == 0 && !keeps_the_rules(&week, order))
+        opened.answer = 6;
+    if (opened.answer != 0)
+        return opened;
+    opened.sheet.n = n;
+    memcpy(opened.sheet.order, order, n);
+    return opened;
 }
 
-uint32_t second_copy(ELURKANTZA_WEEK, const struct elurkantza_sheet *sheet, uint8_t *order24, size_t order24_len,
-                     uint32_t *copy)
+struct elurkantza_copied second_copy(ELURKANTZA_WEEK, struct elurkantza_sheet sheet)
 {
     const struct week week = LENT_WEEK;
-    *copy = 0;
-    if (order24_len == MOST_LOTS)
-        memset(order24, 0, MOST_LOTS);
-    uint32_t refused = week_refusal(&week, true, order24_len == MOST_LOTS);
-    if (refused != 0)
-        return refused;
-    if (!sheet_right(&week, sheet))
-        return 9;
-    memcpy(order24, sheet->order, n);
-    *copy = sheet->saves;
-    return 0;
+    struct elurkantza_copied copied = {0};
+    copied.answer = week_refusal(&week, true, true);
+    if (copied.answer == 0 && !sheet_right(&week, &sheet))
+        copied.answer = 9;
+    if (copied.answer != 0)
+        return copied;
+    copied.copy = sheet.saves;
+    memcpy(copied.order, sheet.order, n);
+    return copied;
 }
 
 uint32_t second_save(ELURKANTZA_WEEK, struct elurkantza_sheet *sheet, uint32_t copy, const uint8_t *moves,
@@ -529,16 +523,11 @@ static void take_tables(const uint8_t *at, size_t n, uint16_t *domain, uint16_t 
             }
 }
 
-uint32_t second_read(const uint8_t *file, size_t file_len, uint32_t *numbers6, size_t numbers6_len, uint16_t *domain,
-                     size_t domain_len, uint16_t *loss, size_t loss_len, uint16_t *give, size_t give_len,
-                     uint16_t *ties, size_t ties_len)
+/* The file's week: its numbers into a reading that is all 0, its tables into the buffers. Answers 0, or the refusal. */
+static uint32_t take_file(const uint8_t *file, size_t file_len, struct elurkantza_reading *reading, uint16_t *domain,
+                          uint16_t *loss, uint16_t *give, uint16_t *ties)
 {
     uint8_t content[MOST_BLOCKS * CONTENT];
-    if (numbers6_len == 6)
-        memset(numbers6, 0, 6 * sizeof *numbers6);
-    if (numbers6_len != 6 || domain_len != MOST_LOTS || loss_len != MOST_LOTS || give_len != MOST_LOTS ||
-        ties_len != MOST_TIE_WORDS)
-        return 2;
     size_t blocks = file_len / BLOCK;
     if (file_len % BLOCK != 0 || blocks < 1 || blocks > MOST_BLOCKS)
         return 15;
@@ -568,13 +557,25 @@ uint32_t second_read(const uint8_t *file, size_t file_len, uint32_t *numbers6, s
         return 3;
     if (!ties_right(&week))
         return 4;
-    for (size_t i = 0; i < 6; i++)
-        numbers6[i] = content[i];
+    reading->n = content[0], reading->a = content[1], reading->b = content[2];
+    reading->alternative = content[3], reading->gap = content[4], reading->helper = content[5];
     memcpy(domain, words[0], sizeof words[0]);
     memcpy(loss, words[1], sizeof words[1]);
     memcpy(give, words[2], sizeof words[2]);
     memcpy(ties, tie_words, sizeof tie_words);
     return 0;
+}
+
+struct elurkantza_reading second_read(const uint8_t *file, size_t file_len, uint16_t *domain, size_t domain_len,
+                                      uint16_t *loss, size_t loss_len, uint16_t *give, size_t give_len, uint16_t *ties,
+                                      size_t ties_len)
+{
+    struct elurkantza_reading reading = {0};
+    if (domain_len != MOST_LOTS || loss_len != MOST_LOTS || give_len != MOST_LOTS || ties_len != MOST_TIE_WORDS)
+        reading.answer = 2;
+    else
+        reading.answer = take_file(file, file_len, &reading, domain, loss, give, ties);
+    return reading;
 }
 
 uint32_t second_write(ELURKANTZA_WEEK, uint8_t *file, size_t file_len)

@@ -47,15 +47,13 @@ static void expect_plan(const char *what, const char *order, const char *table)
 {
     uint8_t got_order[MOST_LOTS], got_table[64];
     size_t n = week.n, table_len = rows_of(n, week.a) * n;
-    uint32_t row = 77;
     memset(got_order, 0xee, sizeof got_order);
     memset(got_table, 0xee, sizeof got_table);
     expect_number(what, both_solve(&week, got_order, n, got_table, table_len), 0);
     expect_slots(what, got_order, order, n);
     expect_number(what, (uint32_t)strlen(table), (uint32_t)table_len);
     expect_slots(what, got_table, table, table_len);
-    expect_number(what, both_check(&week, got_order, n, got_table, table_len, &row), 0);
-    expect_number(what, row, 0);
+    expect_number(what, both_check(&week, got_order, n, got_table, table_len).answer, 0);
 }
 
 static void expect_refused(const char *what, uint32_t number)
@@ -120,16 +118,16 @@ static void three_hundred_rows(void)
 {
     static uint8_t order[24], table[300 * 24], out[24];
     static const uint8_t last[2] = {22, 23};
-    uint32_t row = 77;
     week_plain(&week, 24, 2, 0, 1 << 5);
     memset(week.loss, 0, sizeof week.loss);
     memset(order, 5, sizeof order);
     memset(table, 5, sizeof table);
-    expect_number("300 rows", both_check(&week, order, 24, table, 300 * 24, &row), 0);
-    expect_number("299 rows", both_check(&week, order, 24, table, 299 * 24, &row), 2);
+    expect_number("300 rows", both_check(&week, order, 24, table, 300 * 24).answer, 0);
+    expect_number("299 rows", both_check(&week, order, 24, table, 299 * 24).answer, 2);
     table[299 * 24 + 23] = 6;
-    expect_number("row 299 wrong", both_check(&week, order, 24, table, 300 * 24, &row), 7);
-    expect_number("the number of that row", row, 299);
+    struct elurkantza_checked wrong = both_check(&week, order, 24, table, 300 * 24);
+    expect_number("row 299 wrong", wrong.answer, 7);
+    expect_number("the number of that row", wrong.row, 299);
     expect_number("row of 22 and 23", both_row(24, 2, order, 24, table, 300 * 24, last, 2, out, 24), 0);
     expect_number("its last slot", out[23], 6);
     expect_number("row with 299 rows", both_row(24, 2, order, 24, table, 299 * 24, last, 2, out, 24), 2);
@@ -138,21 +136,20 @@ static void three_hundred_rows(void)
 static void sheet_on_f(void)
 {
     static const uint8_t opened[3] = {1, 2, 3}, lot2_to_2[2] = {2, 2}, lot0_to_2[2] = {0, 2}, lot1_to_3[2] = {1, 3};
-    struct elurkantza_sheet sheet;
-    uint8_t copied[24];
-    uint32_t first = 77, other = 77;
-    memset(&sheet, 0xee, sizeof sheet);
     week_f(1, 0);
-    expect_number("open", both_open(&week, opened, 3, &sheet), 0);
-    expect_number("first copy", both_copy(&week, &sheet, copied, 24, &first), 0);
-    expect_number("other copy", both_copy(&week, &sheet, copied, 24, &other), 0);
-    expect_number("first copy's number", first, 0);
-    expect_number("other copy's number", other, 0);
-    expect_slots("what was copied", copied, "123000000000000000000000", 24);
-    expect_number("lot 2 to slot 2", both_save(&week, &sheet, first, lot2_to_2, 2), 0);
+    struct elurkantza_opened new = both_open(&week, opened, 3);
+    struct elurkantza_sheet sheet = new.sheet;
+    expect_number("open", new.answer, 0);
+    struct elurkantza_copied first = both_copy(&week, sheet), other = both_copy(&week, sheet);
+    expect_number("first copy", first.answer, 0);
+    expect_number("other copy", other.answer, 0);
+    expect_number("first copy's number", first.copy, 0);
+    expect_number("other copy's number", other.copy, 0);
+    expect_slots("what was copied", first.order, "123000000000000000000000", 24);
+    expect_number("lot 2 to slot 2", both_save(&week, &sheet, first.copy, lot2_to_2, 2), 0);
     struct elurkantza_sheet saved_once = sheet;
-    expect_number("then lot 1 to slot 3 from copy 0", both_save(&week, &saved_once, other, lot1_to_3, 2), 12);
-    expect_number("then lot 0 to slot 2 from copy 0", both_save(&week, &sheet, other, lot0_to_2, 2), 0);
+    expect_number("then lot 1 to slot 3 from copy 0", both_save(&week, &saved_once, other.copy, lot1_to_3, 2), 12);
+    expect_number("then lot 0 to slot 2 from copy 0", both_save(&week, &sheet, other.copy, lot0_to_2, 2), 0);
     expect_slots("the sheet's order", sheet.order, "222", 3);
     expect_number("its save number", sheet.saves, 2);
 }

@@ -1,5 +1,5 @@
--- A week as C lends it, six numbers and four tables in front of every call's own arguments: what the walks of the three calls on a
--- sheet have in common. Each walk gives the week away to the service, and has nothing of it left at its end.
+-- A week as C lends it, six numbers and four tables in front of a call's own arguments, in the walk of a call that is lent a sheet too.
+-- The walk gives the week away to the service, and has nothing of it left at its end.
 -- Assumes nothing.
 use mathlib.Core.Path.{refl}
 use mathlib.Core.List.{List, [], _∷_}

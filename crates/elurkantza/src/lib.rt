@@ -1,14 +1,18 @@
 // The C interface: one thin export for each service. include/elurkantza.h declares them.
 ghost use mathlib.Core.Path.{_≡_};
-ghost use lib.ListN.{length};
 ghost use Rattle.week.specs.Tables.{week};
 ghost use Rattle.repair.specs.Service.{Repaired};
 ghost use Rattle.solve.specs.Service.{Solved};
 ghost use Rattle.solve.specs.Judging.{Judged};
-ghost use Rattle.sheet.specs.Sheet.{opened, left, saved};
+ghost use Rattle.sheet.specs.Sheet.{opened, copied, left, saved};
 ghost use Rattle.block.specs.File.{written, writeOf};
-ghost use Rattle.elurkantza.specs.Calls.{numbers, six, Shown, begun, Handed, weekRead, readInto};
+ghost use Rattle.block.specs.Reading.{given, readOf};
+ghost use Rattle.elurkantza.specs.Calls.{numbers, Shown};
+use block::Reading;
+use sheet::Copied;
+use sheet::Opened;
 use sheet::Sheet;
+use solve::Checked;
 use week::Numbers;
 
 // The first super solution into `order`, its repairs into `table`.
@@ -40,7 +44,7 @@ pub extern "C" fn elurkantza_solve(
     solve::solve(numbers, domain, loss, give, ties, order, table)
 }
 
-// Judges an order and its table; with 7 the first wrong row comes through `row`.
+// Judges an order and its table; with 7 comes the number of the first wrong row.
 #[no_mangle]
 pub extern "C" fn elurkantza_check(
     n: u32,
@@ -55,9 +59,8 @@ pub extern "C" fn elurkantza_check(
     ties: &[u16],
     order: &[u8],
     table: &[u8],
-    row: &mut u32,
-) -> u32
-    ensures { λ r. ⌜ Judged (week (numbers n a b alternative gap helper) (now (domain .entry)) (now (loss .entry)) (now (give .entry)) (now (ties .entry))) (now (order .entry)) (now (table .entry)) r (now (row .exit)) ⌝ }
+) -> Checked
+    ensures { λ r. ⌜ Judged (week (numbers n a b alternative gap helper) (now (domain .entry)) (now (loss .entry)) (now (give .entry)) (now (ties .entry))) (now (order .entry)) (now (table .entry)) (r .answer) (r .row) ⌝ }
 {
     let numbers = Numbers {
         n,
@@ -67,9 +70,7 @@ pub extern "C" fn elurkantza_check(
         gap,
         helper,
     };
-    let judged = solve::check(numbers, domain, loss, give, ties, order, table);
-    *row = judged.row;
-    judged.answer
+    solve::check(numbers, domain, loss, give, ties, order, table)
 }
 
 // The first repair of `order` for the lots in `lost`, into `out`.
@@ -126,7 +127,7 @@ pub extern "C" fn elurkantza_row<'a>(
     0
 }
 
-// A new sheet on an order that keeps the rules, into `sheet`.
+// A new sheet on an order that keeps the rules.
 #[no_mangle]
 pub extern "C" fn elurkantza_open(
     n: u32,
@@ -140,9 +141,8 @@ pub extern "C" fn elurkantza_open(
     give: &[u16],
     ties: &[u16],
     order: &[u8],
-    sheet: &mut Sheet,
-) -> u32
-    ensures { λ r. ⌜ begun r (now (sheet .exit)) ≡ opened (week (numbers n a b alternative gap helper) (now (domain .entry)) (now (loss .entry)) (now (give .entry)) (now (ties .entry))) (now (order .entry)) ⌝ }
+) -> Opened
+    ensures { λ r. ⌜ r ≡ opened (week (numbers n a b alternative gap helper) (now (domain .entry)) (now (loss .entry)) (now (give .entry)) (now (ties .entry))) (now (order .entry)) ⌝ }
 {
     let numbers = Numbers {
         n,
@@ -152,36 +152,10 @@ pub extern "C" fn elurkantza_open(
         gap,
         helper,
     };
-    let new = sheet::open(numbers, domain, loss, give, ties, order);
-    *sheet = new.sheet;
-    new.answer
+    sheet::open(numbers, domain, loss, give, ties, order)
 }
 
-// A copy of a sheet for a desk: the order into 24 bytes, the copy number through `copy`.
-fn hand_copy(
-    sheet: Sheet,
-    numbers: Numbers,
-    domain: &[u16],
-    loss: &[u16],
-    give: &[u16],
-    ties: &[u16],
-    order24: &mut [u8],
-    copy: &mut u32,
-) -> u32
-    ensures { λ r. ⌜ Handed (week numbers (now (domain .entry)) (now (loss .entry)) (now (give .entry)) (now (ties .entry))) sheet (now (order24 .entry)) r (now (order24 .exit)) (now (copy .exit)) ⌝ }
-{
-    let taken = sheet.copy(numbers, domain, loss, give, ties);
-    if order24.len() != 24 {
-        *copy = 0;
-        return tables::join(true, false, taken.answer);
-    }
-    let slots = taken.order;
-    repair::copy_slots(&slots, order24);
-    *copy = taken.copy;
-    taken.answer
-}
-
-// A copy of the shared sheet for a desk: the order into `order24`, its number through `copy`.
+// A copy of the shared sheet for a desk: the order, and its copy number.
 #[no_mangle]
 pub extern "C" fn elurkantza_copy(
     n: u32,
@@ -194,11 +168,9 @@ pub extern "C" fn elurkantza_copy(
     loss: &[u16],
     give: &[u16],
     ties: &[u16],
-    sheet: &Sheet,
-    order24: &mut [u8],
-    copy: &mut u32,
-) -> u32
-    ensures { λ r. ⌜ Handed (week (numbers n a b alternative gap helper) (now (domain .entry)) (now (loss .entry)) (now (give .entry)) (now (ties .entry))) (now (sheet .entry)) (now (order24 .entry)) r (now (order24 .exit)) (now (copy .exit)) ⌝ }
+    sheet: Sheet,
+) -> Copied
+    ensures { λ r. ⌜ r ≡ copied (week (numbers n a b alternative gap helper) (now (domain .entry)) (now (loss .entry)) (now (give .entry)) (now (ties .entry))) sheet ⌝ }
 {
     let numbers = Numbers {
         n,
@@ -208,7 +180,7 @@ pub extern "C" fn elurkantza_copy(
         gap,
         helper,
     };
-    hand_copy(*sheet, numbers, domain, loss, give, ties, order24, copy)
+    sheet.copy(numbers, domain, loss, give, ties)
 }
 
 // A desk's save on the one shared sheet, in place.
@@ -241,37 +213,18 @@ pub extern "C" fn elurkantza_save(
     sheet::save(sheet, numbers, domain, loss, give, ties, copy, moves)
 }
 
-// The six numbers of a week into a buffer.
-fn put_numbers(numbers: Numbers, numbers6: &mut [u32])
-    requires { ⌜ length (now numbers6) ≡ 6 ⌝ }
-    ensures { λ _. ⌜ now (numbers6 .exit) ≡ six numbers ⌝ }
-{
-    numbers6[0] = numbers.n;
-    numbers6[1] = numbers.a;
-    numbers6[2] = numbers.b;
-    numbers6[3] = numbers.alternative;
-    numbers6[4] = numbers.gap;
-    numbers6[5] = numbers.helper;
-}
-
-// The week of a block file: its six numbers into `numbers6`, its tables into the four buffers.
+// The week of a block file: its six numbers, and its tables into the four buffers.
 #[no_mangle]
 pub extern "C" fn elurkantza_read(
     file: &[u8],
-    numbers6: &mut [u32],
     domain: &mut [u16],
     loss: &mut [u16],
     give: &mut [u16],
     ties: &mut [u16],
-) -> u32
-    ensures { λ r. ⌜ weekRead r (now (numbers6 .exit)) (now (domain .exit)) (now (loss .exit)) (now (give .exit)) (now (ties .exit)) ≡ readInto (now (file .entry)) (now (numbers6 .entry)) (now (domain .entry)) (now (loss .entry)) (now (give .entry)) (now (ties .entry)) ⌝ }
+) -> Reading
+    ensures { λ r. ⌜ given (r .answer) (r .numbers) (now (domain .exit)) (now (loss .exit)) (now (give .exit)) (now (ties .exit)) ≡ readOf (now (file .entry)) (now (domain .entry)) (now (loss .entry)) (now (give .entry)) (now (ties .entry)) ⌝ }
 {
-    if numbers6.len() != 6 {
-        return 2;
-    }
-    let reading = block::read(file, domain, loss, give, ties);
-    put_numbers(reading.numbers, numbers6);
-    reading.answer
+    block::read(file, domain, loss, give, ties)
 }
 
 // The block file of a week, into `file`.
