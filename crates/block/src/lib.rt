@@ -1,4 +1,6 @@
 // The block file: a week in blocks of 512 bytes, each with its own check. Services read and write.
+#![tactic(auto)]
+
 ghost use Rattle.std.specs.Prelude.{◌≡◌, true, cond, ◌++◌, ◌+◌, ◌*◌, ◌-◌, ◌/◌, ◌%◌, ◌^◌, ◌≤◌, ◌<◌, length, take, drop};
 ghost use Rattle.std.specs.Int.Bits.{bit_xor};
 ghost use Rattle.lex.specs.Every.{one_if};
@@ -15,7 +17,7 @@ use week::{Lot, Numbers, Slot};
 
 // What read answers beside the lent buffers.
 #[repr(C)]
-#[derive(Drop)]
+#[derive(Clone, Copy)]
 pub struct Reading {
     pub answer: u32,
     pub numbers: Numbers,

@@ -1,4 +1,6 @@
 // The C interface: one thin export for each service. include/elurkantza.h declares them.
+#![tactic(auto)]
+
 ghost use Rattle.std.specs.Prelude.{◌≡◌};
 ghost use Rattle.week.specs.Tables.{week};
 ghost use Rattle.repair.specs.Service.{Repaired};

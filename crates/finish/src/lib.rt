@@ -3,6 +3,8 @@
 // A slot over 15 means that a lot is not placed. A forward word has the slots that are left to a lot beside the placed ones.
 // The tally is the search's notebook, and any numbers in it are right: how often each of 24 lots stood in the way, its weight, and behind them how many
 // partial orders were tried.
+#![tactic(auto)]
+
 ghost use Rattle.std.specs.Prelude.{◌≡◌, ◌+◌, ◌≤◌, ◌<◌, length};
 ghost use Rattle.week.specs.Tables.{week, refusal};
 ghost use Rattle.repair.specs.Found.{Holds};
@@ -58,7 +60,7 @@ fn weight_of(tally: &[u32], q: Lot) -> u32 {
 }
 
 // A lot, or n for none, how many slots are left to it, and its weight.
-#[derive(Drop)]
+#[derive(Clone, Copy)]
 struct Choice {
     lot: u8,
     left: u32,
@@ -165,7 +167,7 @@ fn pick_slot(
 }
 
 // A super solution, or a part of an order: why there is none.
-#[derive(Drop)]
+#[derive(Clone, Copy)]
 struct Tried {
     is: bool,
     order: [u8; 24],

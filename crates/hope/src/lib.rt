@@ -1,6 +1,8 @@
 // Whether a partial order may still be finished, as far as its placed lots tell, and if not why. It can not where a group of lots has too little room, where
 // a break of the placed lots has no repair, or none that leaves the other lots room. A reason is a part of the order that no super solution extends.
 // A slot over 15 means that a lot is not placed. A forward word has the slots that are left to a lot beside the placed ones.
+#![tactic(auto)]
+
 ghost use Rattle.std.specs.Prelude.{◌≡◌, true, false, ◌≤◌, ◌<◌, length};
 ghost use Rattle.week.specs.Rules.{rules};
 ghost use Rattle.week.specs.Tables.{week};
@@ -136,7 +138,7 @@ fn at_risk(loss: &[u16], order: &[u8], p: Lot) -> bool
 }
 
 // A loss of placed lots judged: none is without a repair; or `lost` is, and the search for one met the lots of the bits of `met`.
-#[derive(Drop)]
+#[derive(Clone, Copy)]
 struct Losses {
     is: bool,
     lost: Lost,
@@ -526,7 +528,7 @@ fn why_cramped(
 }
 
 // A partial order judged: it may be finished, as far as its placed lots tell; or `why` is why it can not, and `lost` the loss that shows it, if one does.
-#[derive(Drop)]
+#[derive(Clone, Copy)]
 pub struct Judged {
     pub is: bool,
     pub lost: Lost,

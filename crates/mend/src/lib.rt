@@ -1,5 +1,7 @@
 // Whether the placed lots of a partial order have a repair for a loss. The lots that have to move are kept as a set and decided one after the other; a lot is
 // decided once its new slot is fixed. A slot over 15 means that a lot is not placed, or not decided. A set of lots is a number: bit p says that lot p is in it.
+#![tactic(auto)]
+
 ghost use Rattle.std.specs.Prelude.{◌≡◌, true, false, cond, ◌-◌, ◌^◌, ◌≤◌, ◌<◌};
 ghost use Rattle.std.specs.Int.Bits.{bit_or};
 ghost use Rattle.week.specs.Tables.{week};
@@ -13,7 +15,7 @@ use repair::Lost;
 use week::{Lot, Numbers, Slot};
 
 // Whether the placed lots have a repair. `met` are lots that the search for it met, a hint for why there is none: any set is right.
-#[derive(Drop)]
+#[derive(Clone, Copy)]
 pub struct Mended {
     pub is: bool,
     pub met: u32,

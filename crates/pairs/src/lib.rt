@@ -1,11 +1,13 @@
 // Pairs of lots by number, for the rows of a repair table and the words of a block file.
+#![tactic(auto)]
+
 ghost use Rattle.std.specs.Prelude.{◌≡◌, ◌≤◌, ◌<◌};
 ghost use Rattle.pairs.specs.Pairs.{pair_at, low, high, pair_number};
 
 use week::Lot;
 
 // Two different lots, the lower one first.
-#[derive(Drop)]
+#[derive(Clone, Copy)]
 pub struct Pair {
     pub low: Lot,
     pub high: Lot,

@@ -1,4 +1,6 @@
 // The printing program: a block file on standard input, its plan or its refusal on standard output.
+#![tactic(auto)]
+
 use libc::{STDIN_FILENO, STDOUT_FILENO};
 
 // The buffer holds one byte more than the longest file. So a longer file is 9,217 bytes here, which the library refuses with 15 by

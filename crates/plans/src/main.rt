@@ -1,5 +1,7 @@
 // A test: what the library prints for each block file of data/, held to stdout. tests/make_plans.py makes the files and says what
 // must be printed.
+#![tactic(auto)]
+
 use libc::STDOUT_FILENO;
 
 // The name of a file, then its text.

@@ -1,4 +1,6 @@
 // The text of the printing program: the plan of the week in a block file, or the file's refusal.
+#![tactic(auto)]
+
 ghost use Rattle.std.specs.Prelude.{◌≡◌, [], ◌∷◌, ◌*◌, ◌-◌, ◌≤◌, length, replicate};
 ghost use Rattle.week.specs.Tables.{week, refusal};
 ghost use Rattle.repair.specs.Break.{row_count};
@@ -222,7 +224,7 @@ fn clear_from(at: usize, out: &mut [u8])
 }
 
 // What printing gives: 0 and how many bytes of the buffer are text; 2 and 0 where the buffer has a wrong length.
-#[derive(Drop)]
+#[derive(Clone, Copy)]
 pub struct Text {
     pub answer: u32,
     pub length: usize,

@@ -1,4 +1,6 @@
 // Breaks and repairs: the first repair of an order for one or two lost lots.
+#![tactic(auto)]
+
 ghost use Rattle.std.specs.Prelude.{◌≡◌, ◌+◌, ◌-◌, ◌≤◌, ◌<◌, length, get_or, take, leb};
 ghost use Rattle.lex.specs.Every.{every, one_if, count};
 ghost use Rattle.lex.specs.Scan.{scan_from};
@@ -12,11 +14,11 @@ ghost use Rattle.week.specs.Tables.{week, admits};
 use week::{Lot, Numbers, Order, Slot};
 
 // The lots lost at once: two in ascending order, or one, which is then named twice.
-#[derive(Drop)]
+#[derive(Clone, Copy)]
 pub struct Lost(pub Lot, pub Lot);
 
 // An order found, or none: then every place is 0.
-#[derive(Drop)]
+#[derive(Clone, Copy)]
 pub struct Found {
     pub is: bool,
     pub order: Order,

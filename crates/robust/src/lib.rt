@@ -1,5 +1,7 @@
 // What a super solution is, and of its code what solving, checking and printing share: the losses that the rows of a repair table
 // stand for, and which of them break an order.
+#![tactic(auto)]
+
 ghost use Rattle.std.specs.Prelude.{◌≡◌, [], ◌≤◌, ◌<◌, get_or};
 ghost use Rattle.repair.specs.Break.{lost_sets, breaks, row_count};
 ghost use Rattle.repair.specs.Found.{lots_of};

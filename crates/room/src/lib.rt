@@ -1,6 +1,8 @@
 // Room: lots that may never stand in one slot, a group, need as many slots as they are. A partial order in which the lots of a group that are not placed
 // have fewer slots left, together, is dead; and so is a partial repair, where they have fewer beside the moved lots than those that may not move.
 // A slot over 15 means that a lot is not placed, or its move not decided. A forward word has the slots that are left to a lot beside the placed ones.
+#![tactic(auto)]
+
 ghost use Rattle.std.specs.Prelude.{◌≡◌, ◌≤◌, get_or};
 ghost use Rattle.lex.specs.Scan.{scan_from};
 ghost use Rattle.parts.specs.Part.{placed};
@@ -161,7 +163,7 @@ pub fn words_of(n: u32, domain: &[u16], ties: &[u16], order: &[u8]) -> [u16; 24]
 }
 
 // By group, how many of its lots wait and the slots that are left to any of them.
-#[derive(Drop)]
+#[derive(Clone, Copy)]
 pub struct Rooms {
     pub lots: [u8; 24],
     pub slots: [u16; 24],

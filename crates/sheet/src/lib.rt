@@ -1,4 +1,6 @@
 // The sheet that the desks share: opened on an order, copied by value, saved in place.
+#![tactic(auto)]
+
 ghost use Rattle.std.specs.Prelude.{◌≡◌, true, ◌≤◌, ◌<◌, length, get_or, set, take, drop};
 ghost use Rattle.lex.specs.Every.{every_of};
 ghost use Rattle.lex.specs.Lists.{padded};
@@ -12,7 +14,7 @@ use week::{Lot, Numbers, Order, Slot};
 // The shared sheet: n, the order by lots, the number of accepted saves, and for each lot the save at which it last moved.
 // Its own numbers are as wide as a caller may hand in; refusal 9 judges them.
 #[repr(C)]
-#[derive(Drop)]
+#[derive(Clone, Copy)]
 pub struct Sheet {
     pub n: u32,
     pub order: [u8; 24],
@@ -22,7 +24,7 @@ pub struct Sheet {
 
 // What open gives: refusal or 0, and the sheet, all 0 where refused.
 #[repr(C)]
-#[derive(Drop)]
+#[derive(Clone, Copy)]
 pub struct Opened {
     pub answer: u32,
     pub sheet: Sheet,
@@ -30,7 +32,7 @@ pub struct Opened {
 
 // What copy gives: refusal or 0, the copy number and the order, 0 where refused.
 #[repr(C)]
-#[derive(Drop)]
+#[derive(Clone, Copy)]
 pub struct Copied {
     pub answer: u32,
     pub copy: u32,
@@ -38,7 +40,7 @@ pub struct Copied {
 }
 
 // What a save gives by value: refusal or 0, and the sheet afterwards, as it was where refused.
-#[derive(Drop)]
+#[derive(Clone, Copy)]
 pub struct Saved {
     pub answer: u32,
     pub sheet: Sheet,

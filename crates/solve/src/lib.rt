@@ -1,4 +1,6 @@
 // Super solutions: the first one and its repair table; and the judgement of an order and table made elsewhere.
+#![tactic(auto)]
+
 ghost use Rattle.std.specs.Prelude.{◌≡◌, ◌*◌, ◌≤◌, length, true};
 ghost use Rattle.lex.specs.Lists.{same};
 ghost use Rattle.week.specs.Tables.{week, refusal, admits};
@@ -14,7 +16,7 @@ use week::{Lot, Numbers};
 
 // What check answers: refusal or 0, and with 7 the number of the first wrong row, which is 0 otherwise.
 #[repr(C)]
-#[derive(Drop)]
+#[derive(Clone, Copy)]
 pub struct Checked {
     pub answer: u32,
     pub row: u32,

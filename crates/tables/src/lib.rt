@@ -1,4 +1,6 @@
 // Which weeks are refused: the numbers, the lengths, the words of each lot and the tie table, judged in document 01's order, refusals 1 to 4.
+#![tactic(auto)]
+
 ghost use Rattle.std.specs.Prelude.{◌≡◌, ◌≤◌, ◌<◌, eqb};
 ghost use Rattle.std.specs.Bool.{beq};
 ghost use Rattle.lex.specs.Every.{imp};

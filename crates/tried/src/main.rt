@@ -1,4 +1,6 @@
 // A benchmark: a block file on standard input, and on standard output how many partial orders the search of its week tries, or its refusal.
+#![tactic(auto)]
+
 use libc::{STDIN_FILENO, STDOUT_FILENO};
 
 // A number and the end of a line.

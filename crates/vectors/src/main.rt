@@ -1,4 +1,6 @@
 // A test: the hashes of FNV-1a's published vectors, held to stdout, which has the published numbers.
+#![tactic(auto)]
+
 use libc::STDOUT_FILENO;
 
 // The bytes, then their hash in decimal.

@@ -1,18 +1,20 @@
 // A week of the range: its lots and slots, its numbers and tables, and what may stand together.
+#![tactic(auto)]
+
 ghost use Rattle.std.specs.Prelude.{◌≡◌, ◌≤◌, length, get_or, set, replicate};
 ghost use Rattle.week.specs.Rules.{rules, bit_of, inside, tie_word, free, tied, beside, fits, lot_fits, keeps_half};
 
 // A lot's number: the variable of source 000. Never a slot's.
-#[derive(Drop)]
+#[derive(Clone, Copy)]
 pub struct Lot(pub u8);
 
 // A slot's number: the value of source 000. Never a lot's.
-#[derive(Drop)]
+#[derive(Clone, Copy)]
 pub struct Slot(pub u8);
 
 // The six numbers of a week, wide enough to ask whether each is within its limits.
 #[repr(C)]
-#[derive(Drop)]
+#[derive(Clone, Copy)]
 pub struct Numbers {
     pub n: u32,
     pub a: u32,
@@ -23,7 +25,7 @@ pub struct Numbers {
 }
 
 // The slots of up to 24 lots, by value.
-#[derive(Drop)]
+#[derive(Clone, Copy)]
 pub struct Order {
     pub slots: [u8; 24],
 }

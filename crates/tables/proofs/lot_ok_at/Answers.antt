@@ -1,0 +1,6 @@
+use Rattle.week.specs.Tables.{lot_ok_at}
+use Rattle.tables.proofs.lot_ok_at.Goals as goal
+
+pub returns : goal.returns
+unfolding lot_ok_at
+returns c = cc

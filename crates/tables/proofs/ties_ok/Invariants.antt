@@ -1,0 +1,13 @@
+use mathlib.Core.Bool.{true}
+use mathlib.Core.Path.{◌≡◌}
+use Prim.Native.Nat.{◌≤◌, ◌-◌}
+use Rattle.lex.specs.Every.{every}
+use Rattle.week.specs.Rules.{rules}
+use Rattle.week.specs.Tables.{lot_ties_half}
+use Rattle.tables.proofs.ties_ok.Given as goal
+
+abbrev pub invariant-loop-p : goal.invariant-loop-p
+invariant-loop-p l = (l.p ≤ l.n) × (every (lot_ties_half (rules l.n l.domain l.ties)) l.p ≡ true)
+
+abbrev pub decreases-loop-p : goal.decreases-loop-p
+decreases-loop-p l = l.n - l.p

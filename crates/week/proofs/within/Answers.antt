@@ -1,0 +1,6 @@
+use borrow.Author.Rules.{rules}
+use Rattle.week.proofs.Words.{inside_and}
+use Rattle.week.proofs.within.Goals as goal
+
+pub returns : goal.returns
+returns c = inside_and c.args.part c.args.whole (search rules)
