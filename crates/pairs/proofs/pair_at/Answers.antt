@@ -12,13 +12,13 @@ loop-p-init c = (omega arith, rest_all c.args.n c.args.r)
 
 pub returns-then-left-after : goal.returns-then-left-after
 returns-then-left-after c =
-    let is = sym (rest_here c.args.n c.loop-p.p c.loop-p.false (omega arith) c.if-left-after.true) ∙ c.loop-p.invariant.1 in
-    (sym (pair_low c.loop-p.p (c.loop-p.p + 1 + c.loop-p.false)) ∙ ap (λ (A : List ℕ). low A) is, sym (pair_high c.loop-p.p (c.loop-p.p + 1 + c.loop-p.false)) ∙ ap (λ (A : List ℕ). high A) is)
+    let is = sym (rest_here c.args.n c.loop-p.p c.loop-p.left (omega arith) c.if-left-after.true) ∙ c.loop-p.invariant.1 in
+    (sym (pair_low c.loop-p.p (c.loop-p.p + 1 + c.loop-p.left)) ∙ ap (λ (A : List ℕ). low A) is, sym (pair_high c.loop-p.p (c.loop-p.p + 1 + c.loop-p.left)) ∙ ap (λ (A : List ℕ). high A) is)
 
 pub loop-p-preserved : goal.loop-p-preserved
-loop-p-preserved c = (omega arith, rest_later c.args.n c.loop-p.p c.loop-p.false (omega arith) (omega arith) ∙ c.loop-p.invariant.1)
+loop-p-preserved c = (omega arith, rest_later c.args.n c.loop-p.p c.loop-p.left (omega arith) (omega arith) ∙ c.loop-p.invariant.1)
 
 pub returns : goal.returns
 returns c =
-    let is = sym (ap (λ (l : List (List ℕ)). get_or l c.loop-p.false []) (rest_none c.args.n c.loop-p.p (omega arith))) ∙ c.loop-p.invariant.1 in
+    let is = sym (ap (λ (l : List (List ℕ)). get_or l c.loop-p.left []) (rest_none c.args.n c.loop-p.p (omega arith))) ∙ c.loop-p.invariant.1 in
     (ap (λ (A : List ℕ). low A) is, ap (λ (A : List ℕ). high A) is)

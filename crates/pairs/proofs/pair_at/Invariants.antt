@@ -7,7 +7,7 @@ use Rattle.pairs.proofs.Pairs.{rest}
 use Rattle.pairs.proofs.pair_at.Given as goal
 
 abbrev pub invariant-loop-p : goal.invariant-loop-p
-invariant-loop-p l = (l.p ≤ l.n) × (get_or (rest l.n l.p) l.initial.p [] ≡ pair_at l.n l.r)
+invariant-loop-p l = (l.p ≤ l.n) × (get_or (rest l.n l.p) l.left [] ≡ pair_at l.n l.r)
 
 abbrev pub decreases-loop-p : goal.decreases-loop-p
 decreases-loop-p l = l.n - l.p
