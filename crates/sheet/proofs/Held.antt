@@ -223,4 +223,4 @@ copy_number U S e = ap (λ (a : ℕ). cond (eqb a 0) S.saves 0) e
 pub held_after : {W : Week} {S : Sheet} → Held W S → (h : List Call) → Held W (after W S h)
 unfolding after
 held_after held [] = held
-held_after held (x ∷ h) = held_after (held_step held x) h
+held_after {W = W} {S = S} held (x ∷ h) = held_after {S = step W S x} (held_step held x) h

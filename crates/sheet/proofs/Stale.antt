@@ -130,7 +130,7 @@ unfolding after moved_in step
 marked {W} {S} held [] p = record { still = λ e. refl; later = λ e. absurd (not_both e refl); below = λ e. absurd (not_both e refl); up = omega arith }
 marked {W} {S} held (copying N ∷ h) p = call_stays W S (copying N) h p (marked held h p) (shifted_none S S p refl) refl (omega arith)
 marked {W} {S} held (saving x ∷ h) p =
-    let r = marked (held_step held (saving x)) h p in
+    let r = marked {S = step W S (saving x)} (held_step held (saving x)) h p in
     elim (outcome W S x) [
       | taken e f ↦ save_went held x (taken_passed W S x held.week e) h p f r
       | refused e f ↦ call_stays W S (saving x) h p r (shifted_none S (saved_by W S x).sheet p f) (ap (λ (U : Sheet). get_or U.marks p 0) f) (let s = ap (λ (U : Sheet). U.saves) f in omega arith)
