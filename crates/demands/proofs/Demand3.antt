@@ -163,7 +163,7 @@ unfolding accepted_in one_by_one each_taken after step
 replayed_held held [] = record { end = refl; each = refl }
 replayed_held held (copying N ∷ h) = let r = replayed_held held h in record { end = r.end; each = r.each }
 replayed_held {W} {S} held (saving x ∷ h) =
-    let r = replayed_held (held_step held (saving x)) h in
+    let r = replayed_held {S = step W S (saving x)} (held_step held (saving x)) h in
     elim (outcome W S x) [
       | taken e f ↦ record {
         end = ap (one_by_one W S) (with_accepted W S x h e) ∙ (ap (λ (T : Sheet). one_by_one W T (rest W S x h)) (fresh_sheet held x e) ∙ r.end);
