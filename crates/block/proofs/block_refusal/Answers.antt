@@ -1,3 +1,4 @@
+-- `block::block_refusal` meets its contract: the check, then the number.
 use mathlib.Core.Path.{sym, ◌∙◌}
 use native.Mathlib.Omega.{arith}
 use Rattle.block.specs.Reading.{block_refusal}

@@ -1,3 +1,4 @@
+-- `block::blocks_for` meets its contract: the content, rounded up to whole blocks.
 use mathlib.Core.Path.{ap}
 use Prim.Native.Nat.{ℕ, ◌+◌, ◌/◌}
 use native.Mathlib.Omega.{arith}

@@ -1,5 +1,6 @@
+-- `block::blocks_refusal` meets its contract: no block passed is refused.
 use mathlib.Core.Path.{◌≡◌, sym, ◌∙◌, ap}
-use Prim.Native.Nat.{◌-◌, ◌/◌}
+use Prim.Native.Nat.{◌/◌}
 use native.Mathlib.Omega.{arith}
 use lib.ListN.{length}
 use Rattle.block.specs.Reading.{blocks_refusal}

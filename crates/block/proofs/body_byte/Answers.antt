@@ -1,3 +1,4 @@
+-- `block::body_byte` meets its contract: the number, then the content.
 use mathlib.Core.Path.{◌∙◌}
 use native.Mathlib.Omega.{arith}
 use Rattle.week.specs.Tables.{week}

@@ -1,3 +1,4 @@
+-- `block::buffers_ok` meets its contract: each length in its turn.
 use borrow.Author.Rules.{rules}
 use Rattle.block.proofs.Checks.{buffers_good, buffers_bad}
 use Rattle.block.proofs.buffers_ok.Goals as goal

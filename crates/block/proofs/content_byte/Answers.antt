@@ -1,3 +1,4 @@
+-- `block::content_byte` meets its contract: each byte where the content has it.
 use mathlib.Core.Path.{◌∙◌, ap}
 use Prim.Native.Nat.{ℕ, ◌-◌, ◌%◌}
 use native.Mathlib.Omega.{arith}

@@ -1,3 +1,4 @@
+-- `block::content_in` meets its contract: each byte where the file has it.
 use mathlib.Core.Path.{refl}
 use Rattle.block.specs.Reading.{content_in}
 use Rattle.week.proofs.Words.{beyond}

@@ -1,3 +1,4 @@
+-- `block::content_size` meets its contract: n lots, at most 24, make a small product.
 use mathlib.Core.Path.{refl}
 use Prim.Native.Nat.{◌*◌, ◌-◌, ◌≤◌}
 use native.Mathlib.Nat.{mul-le-mul}

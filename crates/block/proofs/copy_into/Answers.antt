@@ -1,5 +1,5 @@
+-- `block::copy_into` meets its contract: the bytes passed are copied.
 use mathlib.Core.Path.{refl, sym, ◌∙◌}
-use Prim.Native.Nat.{◌-◌}
 use native.Mathlib.Omega.{arith}
 use lib.ListN.{length-set}
 use Rattle.block.proofs.Parts.{store_none, store_more, store_end, or_zero_lem, list_self}

@@ -1,3 +1,4 @@
+-- `block::file_refusal` meets its contract: each check in its turn.
 use mathlib.Core.Path.{sym, ◌∙◌, ap}
 use native.Mathlib.Omega.{arith}
 use Rattle.week.specs.declared.Numbers.{Numbers}

@@ -1,5 +1,5 @@
+-- `block::fill_ties` meets its contract: the words passed are put.
 use mathlib.Core.Path.{refl, ◌∙◌}
-use Prim.Native.Nat.{◌-◌}
 use native.Mathlib.Omega.{arith}
 use lib.ListN.{length-set}
 use Rattle.block.proofs.Parts.{store_none, store_more, store_end}

@@ -1,5 +1,6 @@
+-- `block::fnv1a` meets its contract: the hash so far and the bytes left give the hash of all.
 use mathlib.Core.Path.{◌≡◌, sym, ◌∙◌, ap}
-use Prim.Native.Nat.{ℕ, ◌+◌, ◌-◌, ◌*◌, ◌%◌, ◌^◌}
+use Prim.Native.Nat.{ℕ, ◌+◌, ◌*◌, ◌%◌, ◌^◌}
 use native.Mathlib.Omega.{arith}
 use lib.ListN.{drop, get_or}
 use borrow.Author.Rules.{rules}

@@ -1,3 +1,4 @@
+-- `block::held_refusal` meets its contract: each check in its turn.
 use mathlib.Core.Path.{sym, ◌∙◌, ap}
 use Prim.Native.Nat.{ℕ, ◌*◌}
 use native.Mathlib.Omega.{arith}

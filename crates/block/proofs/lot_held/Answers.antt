@@ -1,3 +1,4 @@
+-- `block::lot_held` meets its contract: the three words, judged by `week`.
 use mathlib.Core.Path.{◌∙◌}
 use Rattle.block.proofs.Checks.{lot_held}
 use Rattle.block.proofs.lot_held.Goals as goal

@@ -1,3 +1,4 @@
+-- `block::lot_word` meets its contract: beyond the table stands 0.
 use mathlib.Core.Path.{◌∙◌}
 use native.Mathlib.Omega.{arith}
 use Rattle.block.proofs.Checks.{table_small, lot_inside, lot_outside}

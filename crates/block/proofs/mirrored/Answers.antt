@@ -1,5 +1,6 @@
+-- `block::mirrored` meets its contract: the bits passed are in the word.
 use mathlib.Core.Path.{◌≡◌, refl, ◌∙◌, ap}
-use Prim.Native.Nat.{ℕ, ◌+◌, ◌*◌, ◌-◌, ◌≤◌}
+use Prim.Native.Nat.{ℕ, ◌+◌, ◌*◌, ◌≤◌}
 use native.Mathlib.Omega.{arith}
 use Rattle.lex.specs.Every.{one_if}
 use Rattle.week.specs.Rules.{bit_of, word_of}

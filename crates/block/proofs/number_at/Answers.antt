@@ -1,3 +1,4 @@
+-- `block::number_at` meets its contract: the six in their order.
 use mathlib.Core.Path.{◌≡◌, ap, sym}
 use native.Mathlib.Omega.{arith}
 use Rattle.block.specs.Content.{number_at}

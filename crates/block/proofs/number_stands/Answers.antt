@@ -1,6 +1,5 @@
+-- `block::number_stands` meets its contract: the bytes passed stand.
 use mathlib.Core.Path.{sym, ◌∙◌}
-use mathlib.Core.Bool.{true}
-use Prim.Native.Nat.{◌-◌}
 use native.Mathlib.Omega.{arith}
 use borrow.Author.Tests.{eq-eqb, ne_eqb}
 use Rattle.lex.proofs.Every.{every_none, every_step, every_false, every_end}

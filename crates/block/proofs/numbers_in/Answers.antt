@@ -1,3 +1,4 @@
+-- `block::numbers_in` meets its contract: the first six bytes of the content.
 use Rattle.block.proofs.Checks.{numbers_read}
 use Rattle.block.proofs.numbers_in.Goals as goal
 

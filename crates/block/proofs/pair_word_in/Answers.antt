@@ -1,3 +1,4 @@
+-- `block::pair_word_in` meets its contract: the word at its place.
 use mathlib.Core.Path.{◌∙◌, ap}
 use Prim.Native.Nat.{ℕ, ◌+◌, ◌*◌, ◌≤◌}
 use native.Mathlib.Omega.{arith}

@@ -1,3 +1,4 @@
+-- `block::put_block` meets its contract: zero bytes, then number and content, then the check.
 use Rattle.week.specs.Tables.{week}
 use Rattle.block.proofs.File.{block_put}
 use Rattle.block.proofs.put_block.Goals as goal

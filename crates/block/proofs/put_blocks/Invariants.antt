@@ -1,6 +1,6 @@
 use mathlib.Core.Path.{◌≡◌}
 use mathlib.Core.List.{◌++◌}
-use Prim.Native.Nat.{◌+◌, ◌*◌, ◌≤◌, ◌-◌}
+use Prim.Native.Nat.{◌*◌, ◌≤◌, ◌-◌}
 use lib.ListN.{length, drop}
 use Rattle.lex.specs.Lists.{list_of}
 use Rattle.week.specs.Tables.{week}

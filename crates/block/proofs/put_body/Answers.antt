@@ -1,8 +1,8 @@
+-- `block::put_body` meets its contract: the bytes passed are put.
 use mathlib.Core.Path.{refl}
-use Prim.Native.Nat.{◌-◌}
 use native.Mathlib.Omega.{arith}
 use lib.ListN.{length-set}
-use Rattle.block.specs.File.{body_byte, body}
+use Rattle.block.specs.File.{body}
 use Rattle.block.proofs.Parts.{store_none, store_more, store_stop}
 use Rattle.block.proofs.put_body.Goals as goal
 

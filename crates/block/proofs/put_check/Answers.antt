@@ -1,8 +1,7 @@
+-- `block::put_check` meets its contract: the bytes passed are put.
 use mathlib.Core.Path.{refl}
-use Prim.Native.Nat.{◌-◌}
 use native.Mathlib.Omega.{arith}
 use lib.ListN.{length-set}
-use Rattle.block.specs.Parts.{byte_of}
 use Rattle.block.proofs.Parts.{behind_none, behind_more, behind_end}
 use Rattle.block.proofs.put_check.Goals as goal
 

@@ -1,3 +1,4 @@
+-- `block::read` meets its contract: each check in its turn, then every buffer.
 use mathlib.Core.Path.{◌≡◌, sym, ◌∙◌}
 use mathlib.Core.Bool.{true}
 use native.Mathlib.Omega.{arith}

@@ -1,3 +1,4 @@
+-- `block::table_word` meets its contract: each word where the content has it.
 use mathlib.Core.Path.{◌∙◌}
 use native.Mathlib.Omega.{arith}
 use Rattle.week.specs.Tables.{week}

@@ -1,3 +1,4 @@
+-- `block::tie_at` meets its contract: each word where the table has it; beyond the table stands 0.
 use mathlib.Core.Path.{◌∙◌}
 use native.Mathlib.Omega.{arith}
 use Rattle.week.proofs.Words.{square_small}

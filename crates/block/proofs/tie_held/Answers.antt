@@ -1,3 +1,4 @@
+-- `block::tie_held` meets its contract: the word against the two domains.
 use mathlib.Core.Path.{◌∙◌}
 use Rattle.block.proofs.Checks.{tie_held_lem}
 use Rattle.block.proofs.tie_held.Goals as goal

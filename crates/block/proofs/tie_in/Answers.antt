@@ -1,3 +1,4 @@
+-- `block::tie_in` meets its contract: by the words of the lower lot.
 use mathlib.Core.Path.{◌∙◌}
 use native.Mathlib.Omega.{arith}
 use Rattle.block.proofs.Ties.{tie_before, tie_after, tie_same}

@@ -1,10 +1,9 @@
+-- `block::ties_held` meets its contract: the words passed are right.
 use mathlib.Core.Path.{sym, ◌∙◌}
-use mathlib.Core.Bool.{true}
 use Prim.Native.Nat.{◌≤◌, ◌-◌, ◌*◌}
 use native.Mathlib.Nat.{mul-le-mul}
 use native.Mathlib.Omega.{arith}
 use Rattle.lex.proofs.Every.{every_none, every_step, every_false, every_end}
-use Rattle.block.specs.Reading.{tie_held}
 use Rattle.block.proofs.Ties.{ties_held}
 use Rattle.block.proofs.ties_held.Goals as goal
 

@@ -1,3 +1,4 @@
+-- `block::whole_blocks` meets its contract: each test in its turn.
 use native.Mathlib.Omega.{arith}
 use Rattle.block.proofs.Checks.{whole_bad, whole_last}
 use Rattle.block.proofs.whole_blocks.Goals as goal

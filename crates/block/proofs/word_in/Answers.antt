@@ -1,3 +1,4 @@
+-- `block::word_in` meets its contract: the low byte, then the high one.
 use mathlib.Core.Path.{ap₂}
 use Prim.Native.Nat.{ℕ, ◌+◌, ◌*◌}
 use Rattle.block.specs.Reading.{word_in}

@@ -1,6 +1,5 @@
+-- `block::words_held` meets its contract: the lots passed are right.
 use mathlib.Core.Path.{sym, ◌∙◌}
-use mathlib.Core.Bool.{true}
-use Prim.Native.Nat.{◌-◌}
 use native.Mathlib.Omega.{arith}
 use Rattle.lex.proofs.Every.{every_none, every_step, every_false, every_end}
 use Rattle.week.specs.Tables.{words_ok}

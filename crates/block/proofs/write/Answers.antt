@@ -1,3 +1,4 @@
+-- `block::write` meets its contract: each check in its turn, then every block.
 use mathlib.Core.Path.{◌≡◌, sym, ◌∙◌}
 use mathlib.Core.Bool.{true}
 use native.Mathlib.Omega.{arith}

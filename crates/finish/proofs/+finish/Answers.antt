@@ -1,5 +1,6 @@
-use mathlib.Core.Path.{◌≡◌, refl, sym, ◌∙◌}
-use Prim.Native.Nat.{ℕ, ◌-◌}
+-- `finish::finish` meets its contract: the slots of the lot that is next are tried one after the other, each failure with its reason; fewer lots are left to
+-- place at each call. Assumes nothing.
+use mathlib.Core.Path.{◌≡◌, refl, sym}
 use native.Mathlib.Omega.{arith}
 use lib.ListN.{length-set}
 use borrow.Author.Tests.{not-true, not-false}

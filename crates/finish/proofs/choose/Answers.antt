@@ -1,4 +1,4 @@
-use Prim.Native.Nat.{◌-◌}
+-- `finish::choose` meets its contract: of the lots passed, the choice is one that is not placed, or all are.
 use native.Mathlib.Omega.{arith}
 use Rattle.finish.proofs.Next.{best_start, best_all}
 use Rattle.finish.proofs.choose.Goals as goal

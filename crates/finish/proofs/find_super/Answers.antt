@@ -1,5 +1,5 @@
+-- `finish::find_super` meets its contract: the lots passed have the least slots that a super solution has.
 use mathlib.Core.Path.{refl, sym, ◌∙◌}
-use Prim.Native.Nat.{◌-◌}
 use native.Mathlib.Omega.{arith}
 use borrow.Author.Tests.{not-true, not-false}
 use Rattle.lex.specs.Lists.{padded}

@@ -1,3 +1,4 @@
+-- `finish::least` meets its contract: what is found, or what was known.
 use native.Mathlib.Omega.{arith}
 use Rattle.finish.proofs.Search.{week_few, known_low, known_least, found_least, best_next}
 use Rattle.finish.proofs.least.Goals as goal

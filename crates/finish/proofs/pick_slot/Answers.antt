@@ -1,5 +1,6 @@
+-- `finish::pick_slot` meets its contract: the slots passed fail for the part that is held, and the lots passed have a slot left.
 use mathlib.Core.Path.{refl, sym, ◌∙◌, ap}
-use Prim.Native.Nat.{ℕ, ◌-◌}
+use Prim.Native.Nat.{ℕ}
 use native.Mathlib.Omega.{arith}
 use lib.ListN.{length-set}
 use Rattle.week.specs.Rules.{bit_of}

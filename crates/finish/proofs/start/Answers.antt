@@ -1,3 +1,4 @@
+-- `finish::start` meets its contract: the order is judged, and lot x has no slots but those of its word.
 use mathlib.Core.Path.{sym}
 use native.Mathlib.Omega.{arith}
 use borrow.Author.Tests.{not-true, not-false}

@@ -1,3 +1,4 @@
+-- `hope::all_safe` meets its contract: the losses of one lot and of two are judged.
 use mathlib.Core.Path.{sym}
 use borrow.Author.Tests.{not-true, not-false}
 use Rattle.week.proofs.Tables.{accepted}

@@ -1,3 +1,4 @@
+-- `hope::at_risk` meets its contract.
 use mathlib.Core.Path.{◌∙◌, ap₂}
 use Rattle.week.specs.Rules.{bit_of}
 use Rattle.hope.specs.Safe.{risks}

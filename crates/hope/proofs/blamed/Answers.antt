@@ -1,5 +1,5 @@
+-- `hope::blamed` meets its contract: of the lots passed those in the part take slots outside the target from the lot, and the rest has what they all leave.
 use mathlib.Core.Path.{sym, ◌∙◌}
-use Prim.Native.Nat.{◌-◌}
 use native.Mathlib.Omega.{arith}
 use Rattle.hope.proofs.Blame.{blaming_start, blamed_early, blaming_free, blaming_self, blaming_within, blaming_take, blamed_end}
 use Rattle.hope.proofs.blamed.Goals as goal

@@ -1,5 +1,5 @@
+-- `hope::first_cramped` meets its contract: only a loss that the search for a repair with room refuses is named.
 use mathlib.Core.Path.{refl, sym, ◌∙◌}
-use Prim.Native.Nat.{◌-◌}
 use native.Mathlib.Omega.{arith}
 use borrow.Author.Tests.{not-true}
 use Rattle.lex.proofs.Every.{not_both}

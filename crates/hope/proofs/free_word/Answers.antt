@@ -1,3 +1,4 @@
+-- `hope::free_word` meets its contract: each shift leaves the slots beyond.
 use native.Mathlib.Omega.{arith}
 use Rattle.hope.proofs.Safe.{frees_none, frees_gap, frees_help, frees_else}
 use Rattle.hope.proofs.free_word.Goals as goal

@@ -1,4 +1,4 @@
-use Prim.Native.Nat.{◌-◌}
+-- `hope::free_words` meets its contract: the words of the lots passed are made.
 use native.Mathlib.Omega.{arith}
 use Rattle.hope.proofs.Safe.{freed_start, freed_next, freed_all}
 use Rattle.hope.proofs.free_words.Goals as goal

@@ -1,6 +1,6 @@
+-- `hope::has_pair` meets its contract: a tie word that meets the other word has a slot of it.
 use mathlib.Core.Path.{sym, ◌∙◌}
 use mathlib.Core.Bool.{true≢false}
-use Prim.Native.Nat.{◌-◌}
 use Rattle.hope.proofs.Safe.{paired}
 use Rattle.hope.proofs.has_pair.Goals as goal
 

@@ -1,3 +1,4 @@
+-- `hope::judge` meets its contract: each test in its turn.
 use mathlib.Core.Path.{sym, ◌∙◌}
 use borrow.Author.Tests.{not-true, not-false}
 use Rattle.room.proofs.None.{slack_none}

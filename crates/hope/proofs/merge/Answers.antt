@@ -1,5 +1,5 @@
-use mathlib.Core.Path.{refl, sym, ◌∙◌}
-use Prim.Native.Nat.{◌-◌}
+-- `hope::merge` meets its contract: the lots passed are merged, and the others are those that stood.
+use mathlib.Core.Path.{refl}
 use native.Mathlib.Omega.{arith}
 use Rattle.hope.proofs.Blame.{merging_start, merging_keep, merging_take, merging_end}
 use Rattle.hope.proofs.merge.Goals as goal
@@ -24,9 +24,6 @@ bounds-part-at-in-loop-p c = omega (arith, c.loop-p.invariant.1.size)
 
 pub loop-p-preserved : goal.loop-p-preserved
 loop-p-preserved c = (omega arith, merging_take c.loop-p.invariant.1 _ (omega arith) refl c.if-part-at-lt16.false c.if-at-x.false)
-
--- LOST same-length
--- c.before.loop.invariant.1.size ∙ sym c.before.before.requires.0
 
 pub returns : goal.returns
 returns c = merging_end c.loop-p.invariant.1 (omega arith)

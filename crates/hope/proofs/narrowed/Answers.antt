@@ -1,5 +1,5 @@
+-- `hope::narrowed` meets its contract: what is placed so far stands where the order has it.
 use mathlib.Core.Path.{refl}
-use Prim.Native.Nat.{◌-◌}
 use native.Mathlib.Omega.{arith}
 use Rattle.hope.proofs.Blame.{part_start, part_take}
 use Rattle.hope.proofs.narrowed.Goals as goal

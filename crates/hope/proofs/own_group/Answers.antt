@@ -1,3 +1,4 @@
+-- `hope::own_group` meets its contract.
 use mathlib.Core.Path.{sym, ◌∙◌}
 use native.Mathlib.Omega.{arith}
 use Rattle.hope.proofs.Own.{own_placed, own_over, own_waits}

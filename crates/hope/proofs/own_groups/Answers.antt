@@ -1,4 +1,4 @@
-use Prim.Native.Nat.{◌-◌}
+-- `hope::own_groups` meets its contract: the numbers of the lots passed are made.
 use native.Mathlib.Omega.{arith}
 use Rattle.hope.proofs.Own.{own_start, own_next, own_all}
 use Rattle.hope.proofs.own_groups.Goals as goal

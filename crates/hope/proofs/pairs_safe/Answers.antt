@@ -1,5 +1,5 @@
+-- `hope::pairs_safe` meets its contract: the losses of two lots, of which one is passed, are safe.
 use mathlib.Core.Path.{sym, ◌∙◌}
-use Prim.Native.Nat.{◌-◌}
 use native.Mathlib.Omega.{arith}
 use borrow.Author.Tests.{not-true, not-false}
 use Rattle.hope.proofs.Safe.{judging_few, partners_calm, pairs_next}

@@ -1,5 +1,5 @@
+-- `hope::partners_safe` meets its contract: the losses of the lot with each lot passed are safe.
 use mathlib.Core.Path.{refl, sym, ◌∙◌}
-use Prim.Native.Nat.{◌-◌}
 use native.Mathlib.Omega.{arith}
 use borrow.Author.Tests.{not-true, not-false}
 use Rattle.hope.proofs.Safe.{judging_few, two_struck, two_calm, two_free, two_mended, partners_next}

@@ -1,4 +1,4 @@
-use Prim.Native.Nat.{◌-◌}
+-- `hope::pressed` meets its contract: parts of the order are merged.
 use native.Mathlib.Omega.{arith}
 use lib.ListN.{get_or}
 use Rattle.hope.proofs.Blame.{part_start}

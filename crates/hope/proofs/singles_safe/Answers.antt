@@ -1,5 +1,5 @@
+-- `hope::singles_safe` meets its contract: the losses of the lots passed are safe.
 use mathlib.Core.Path.{refl, sym, ◌∙◌}
-use Prim.Native.Nat.{◌-◌}
 use native.Mathlib.Omega.{arith}
 use borrow.Author.Tests.{not-true, not-false}
 use Rattle.hope.proofs.Safe.{judging_few, one_struck, one_calm, one_free, one_mended, singles_next}

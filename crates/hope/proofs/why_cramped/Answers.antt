@@ -1,3 +1,4 @@
+-- `hope::why_cramped` meets its contract: the part is asked whether it alone has the break and no repair with room.
 use mathlib.Core.Path.{sym, ◌∙◌}
 use Rattle.week.specs.Tables.{week}
 use Rattle.week.proofs.Tables.{accepted}

@@ -1,3 +1,4 @@
+-- `hope::why_crowded` meets its contract: the part is asked whether it alone leaves too little room.
 use mathlib.Core.Path.{sym, ◌∙◌}
 use Rattle.week.specs.Tables.{week}
 use Rattle.week.proofs.Tables.{accepted}

@@ -1,3 +1,4 @@
+-- `hope::why_unsafe` meets its contract: the part is asked whether it alone has the break and no repair.
 use mathlib.Core.Path.{sym, ◌∙◌}
 use Rattle.week.proofs.Tables.{accepted}
 use Rattle.hope.proofs.Safe.{struck_part, why_part, why_whole, part_fewer}

@@ -1,10 +1,10 @@
+-- `mend::mends` meets its contract: the slots of the lot that is next are tried one after the other; fewer lots are left to decide at each call.
 use mathlib.Core.Path.{◌≡◌, sym, ◌∙◌, ap}
-use Prim.Native.Nat.{ℕ, ◌-◌, ◌≤◌, ◌<◌}
+use Prim.Native.Nat.{ℕ, ◌≤◌, ◌<◌}
 use native.Mathlib.Omega.{arith}
 use lib.Bits.{bit_and, bit_or}
 use lib.Count.{ones}
 use lib.ListN.{length-set}
-use borrow.Fn.PlainCycle.{is}
 use Rattle.lex.specs.Every.{count}
 use Rattle.week.specs.Tables.{week}
 use Rattle.repair.specs.Found.{lots_of}

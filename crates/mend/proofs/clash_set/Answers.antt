@@ -1,5 +1,5 @@
+-- `mend::clash_set` meets its contract: the set has those of the lots passed.
 use mathlib.Core.Path.{sym, ◌∙◌, ap}
-use Prim.Native.Nat.{◌-◌}
 use native.Mathlib.Omega.{arith}
 use lib.Bits.{bit_or}
 use Rattle.mend.proofs.Sets.{set_start, set_yes, set_no, set_end}

@@ -1,3 +1,4 @@
+-- `mend::has_repair` meets its contract: room is not asked.
 use mathlib.Core.Path.{refl, sym}
 use Rattle.lex.proofs.Every.{not_both}
 use Rattle.mend.proofs.has_repair.Goals as goal

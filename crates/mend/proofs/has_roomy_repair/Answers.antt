@@ -1,3 +1,4 @@
+-- `mend::has_roomy_repair` meets its contract.
 use Rattle.mend.proofs.has_roomy_repair.Goals as goal
 
 pub repair_by-requires : goal.repair_by-requires

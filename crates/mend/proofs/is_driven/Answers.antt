@@ -1,3 +1,4 @@
+-- `mend::is_driven` meets its contract.
 use Rattle.mend.proofs.Tests.{driven_absent, driven_decided, driven_stands}
 use Rattle.mend.proofs.is_driven.Goals as goal
 

@@ -1,3 +1,4 @@
+-- `mend::is_stuck` meets its contract.
 use Rattle.mend.proofs.Tests.{stuck_absent, stuck_stands}
 use Rattle.mend.proofs.is_stuck.Goals as goal
 

@@ -1,3 +1,4 @@
+-- `mend::lowest` meets its contract.
 use native.Mathlib.Omega.{arith}
 use lib.Count.{trailing_le}
 use Rattle.mend.proofs.Sets.{lowest_has}

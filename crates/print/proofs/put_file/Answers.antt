@@ -1,3 +1,4 @@
+-- `print::put_file` meets its contract: read's refusal, or the week that its buffers hold.
 use mathlib.Core.Path.{sym}
 use Prim.Native.Nat.{◌*◌, ◌≤◌}
 use native.Mathlib.Omega.{arith}

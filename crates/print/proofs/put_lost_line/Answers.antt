@@ -1,3 +1,4 @@
+-- `print::put_lost_line` meets its contract: the word, the lots, the colon, the slots, the end of the line.
 use Rattle.repair.specs.Found.{lots_of}
 use Rattle.print.specs.Text.{lost_word, colon_word, fields, newline, lost_line}
 use Rattle.print.proofs.Put.{put_more, fits_first, fits_rest}

@@ -1,3 +1,4 @@
+-- `print::put_lots` meets its contract: the first lot, and the last where that is another.
 use Rattle.print.proofs.Lines.{first_fits, last_fits, one_put, two_put}
 use Rattle.print.proofs.put_lots.Goals as goal
 

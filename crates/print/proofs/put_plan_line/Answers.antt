@@ -1,3 +1,4 @@
+-- `print::put_plan_line` meets its contract: the word, the slots, the end of the line.
 use Rattle.print.specs.Text.{plan_word, fields, newline, plan_line}
 use Rattle.print.proofs.Put.{put_more, fits_first, fits_rest}
 use Rattle.print.proofs.put_plan_line.Goals as goal

@@ -1,3 +1,4 @@
+-- `print::put_refused` meets its contract: the word, the number, the end of the line.
 use Rattle.print.specs.Text.{refused_word, field, newline, refused_line}
 use Rattle.print.proofs.Put.{put_more, fits_first, fits_rest}
 use Rattle.print.proofs.put_refused.Goals as goal

@@ -1,3 +1,4 @@
+-- `print::put_solved` meets its contract: solve's refusal, or the order and the rows that it gave.
 use Rattle.week.specs.Tables.{week}
 use Rattle.week.proofs.Tables.{Limits, accepted}
 use Rattle.print.proofs.Put.{put_as}

@@ -1,3 +1,4 @@
+-- `print::put_table` meets its contract: the line of the order, then those of the rows.
 use Rattle.print.specs.Text.{plan_line}
 use Rattle.print.specs.Put.{table_text}
 use Rattle.print.proofs.Put.{put_more, fits_first, fits_rest}

@@ -1,3 +1,4 @@
+-- `print::put_week` meets its contract: its buffers, cut to the week, have the lengths that solve asks for.
 use mathlib.Core.Path.{sym, ◌∙◌, ap}
 use Prim.Native.Nat.{ℕ, ◌*◌, ◌≤◌}
 use native.Mathlib.Omega.{arith}

@@ -1,4 +1,4 @@
-use Prim.Native.Nat.{◌-◌}
+-- `print::put_word` meets its contract: the bytes passed stand.
 use native.Mathlib.Omega.{arith}
 use Rattle.print.proofs.Put.{byte_at, pieces_none, pieces_more, word_fits, word_put}
 use Rattle.print.proofs.put_word.Goals as goal

@@ -1,6 +1,5 @@
+-- `repair::all_ascend` meets its contract: the lots passed are below their next.
 use mathlib.Core.Path.{sym}
-use mathlib.Core.Bool.{true}
-use Prim.Native.Nat.{◌-◌}
 use native.Mathlib.Omega.{arith}
 use Rattle.lex.proofs.Every.{every_none, every_step, every_false, every_end}
 use Rattle.repair.proofs.Break.{ascends_no, ascends_yes}

@@ -1,6 +1,5 @@
+-- `repair::all_below` meets its contract: the lots passed are below n.
 use mathlib.Core.Path.{sym}
-use mathlib.Core.Bool.{true}
-use Prim.Native.Nat.{◌-◌}
 use native.Mathlib.Omega.{arith}
 use Rattle.lex.proofs.Every.{every_none, every_step, every_false, every_end}
 use Rattle.repair.proofs.Break.{below_no, below_yes}

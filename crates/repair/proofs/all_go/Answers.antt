@@ -1,6 +1,5 @@
+-- `repair::all_go` meets its contract: the lots passed may go.
 use mathlib.Core.Path.{◌≡◌, sym, ◌∙◌}
-use mathlib.Core.Bool.{true}
-use Prim.Native.Nat.{◌-◌}
 use native.Mathlib.Omega.{arith}
 use Rattle.lex.proofs.Every.{every_none, every_step, every_false, every_end}
 use Rattle.repair.specs.Repair.{case, goes_at}

@@ -1,5 +1,5 @@
+-- `repair::count_moves` meets its contract: the lots passed are counted.
 use mathlib.Core.Path.{◌≡◌, sym, ◌∙◌, refl}
-use Prim.Native.Nat.{◌-◌}
 use native.Mathlib.Omega.{arith}
 use Rattle.lex.specs.Every.{count}
 use Rattle.lex.proofs.Every.{count_yes, count_no, count_le}

@@ -1,6 +1,5 @@
+-- `repair::few_ahead` meets its contract: the lots passed that must move may, and are counted.
 use mathlib.Core.Path.{sym, ◌∙◌}
-use Prim.Native.Nat.{◌-◌}
-use borrow.Author.Tests.{not-false}
 use Rattle.repair.proofs.Ahead.{run_start, run_stays, run_moves, run_many, run_fixed, run_done}
 use Rattle.repair.proofs.few_ahead.Goals as goal
 use Rattle.repair.proofs.few_ahead.Goals.{then-must_move+else-numbers-all+else-not-gives, else-must_move}

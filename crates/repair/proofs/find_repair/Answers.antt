@@ -1,3 +1,4 @@
+-- `repair::find_repair` meets its contract: the loop's invariant is the search's state, and each way through the body is one of its laws.
 use mathlib.Core.Option.{none, some}
 use native.Mathlib.Omega.{arith}
 use lib.ListN.{take, set}

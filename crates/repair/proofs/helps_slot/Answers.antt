@@ -1,3 +1,4 @@
+-- `repair::helps_slot` meets its contract.
 use mathlib.Core.Path.{refl}
 use borrow.Author.Tests.{eq-eqb, ne_eqb}
 use Rattle.repair.specs.Repair.{helps}

@@ -1,3 +1,4 @@
+-- `repair::is_lost` meets its contract.
 use borrow.Author.Tests.{eq-eqb, ne_eqb}
 use Rattle.repair.proofs.Mends.{lost_either}
 use Rattle.repair.proofs.is_lost.Goals as goal

@@ -1,3 +1,4 @@
+-- `repair::is_repair` meets its contract: the three tests of a repair.
 use mathlib.Core.Path.{sym, ◌∙◌}
 use Rattle.repair.proofs.Mends.{half_not_kept, half_no_go, half_counted}
 use Rattle.repair.proofs.is_repair.Goals as goal

@@ -1,3 +1,4 @@
+-- `repair::lost_of` meets its contract.
 use Rattle.repair.proofs.Break.{lots_all}
 use Rattle.repair.proofs.lost_of.Goals as goal
 

@@ -1,3 +1,4 @@
+-- `repair::may_go` meets its contract.
 use mathlib.Core.Path.{sym, ◌∙◌}
 use Rattle.repair.proofs.Mends.{go_helper, go_lost, go_other}
 use Rattle.repair.proofs.may_go.Goals as goal

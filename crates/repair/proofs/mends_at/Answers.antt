@@ -1,3 +1,4 @@
+-- `repair::mends_at` meets its contract.
 use mathlib.Core.Path.{sym, ◌∙◌}
 use Rattle.repair.proofs.Mends.{at_no_go, at_many, at_fits}
 use Rattle.repair.proofs.mends_at.Goals as goal

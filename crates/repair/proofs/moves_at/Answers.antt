@@ -1,3 +1,4 @@
+-- `repair::moves_at` meets its contract.
 use mathlib.Core.Path.{◌∙◌, ap}
 use Rattle.repair.specs.Repair.{case, moves, moves_at}
 use Rattle.repair.proofs.moves_at.Goals as goal

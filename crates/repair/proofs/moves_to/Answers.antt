@@ -1,3 +1,4 @@
+-- `repair::moves_to` meets its contract.
 use mathlib.Core.Path.{sym, ◌∙◌}
 use Rattle.repair.proofs.Mends.{moves_lost, moves_other}
 use Rattle.repair.proofs.moves_to.Goals as goal

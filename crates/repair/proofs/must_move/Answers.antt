@@ -1,3 +1,4 @@
+-- `repair::must_move` meets its contract.
 use mathlib.Core.Path.{sym, ◌∙◌}
 use native.Mathlib.Omega.{arith}
 use Rattle.repair.proofs.Ahead.{must_later, must_lost, must_clash, must_behind}

@@ -1,8 +1,7 @@
+-- `repair::pick_slot` meets its contract: the scan from the slot in turn gives what the whole scan gives.
 use mathlib.Core.Path.{sym, ◌∙◌, refl}
-use Prim.Native.Nat.{◌-◌}
 use native.Mathlib.Omega.{arith}
 use Rattle.lex.proofs.Scan.{scan_miss, scan_hit, scan_end}
-use Rattle.repair.specs.Repair.{leads_at}
 use Rattle.repair.proofs.pick_slot.Goals as goal
 
 pub loop-v-init : goal.loop-v-init

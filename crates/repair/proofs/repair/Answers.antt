@@ -1,3 +1,4 @@
+-- `repair::repair` meets its contract: each answer in its turn.
 use mathlib.Core.Path.{◌≡◌, sym, ◌∙◌, subst}
 use mathlib.Core.Bool.{true}
 use mathlib.Core.List.{List}

@@ -1,3 +1,4 @@
+-- `repair::repair_admits` meets its contract.
 use mathlib.Core.Path.{◌∙◌}
 use Rattle.week.proofs.Tables.{joined_admits}
 use Rattle.repair.proofs.repair_admits.Goals as goal

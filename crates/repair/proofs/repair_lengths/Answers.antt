@@ -1,3 +1,4 @@
+-- `repair::repair_lengths` meets its contract.
 use borrow.Author.Tests.{eq-eqb, ne_eqb}
 use Rattle.repair.specs.Service.{repair_lengths}
 use Rattle.repair.proofs.repair_lengths.Goals as goal

@@ -1,3 +1,4 @@
+-- `repair::row` meets its contract.
 use mathlib.Core.Path.{◌≡◌, sym, ◌∙◌, ap, refl}
 use Prim.Native.Nat.{◌≤◌}
 use native.Mathlib.Omega.{arith}

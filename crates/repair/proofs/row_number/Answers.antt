@@ -1,3 +1,4 @@
+-- `repair::row_number` meets its contract: a loss of one lot has the row of its number, one of two lots stands behind those.
 use mathlib.Core.Path.{◌∙◌, ap}
 use Prim.Native.Nat.{ℕ, ◌+◌, ◌-◌}
 use native.Mathlib.Omega.{arith}

@@ -1,3 +1,4 @@
+-- `repair::row_numbers` meets its contract.
 use mathlib.Core.Bool.{and-false}
 use native.Mathlib.Omega.{arith}
 use borrow.Author.Tests.{le-leb, lt-leb}

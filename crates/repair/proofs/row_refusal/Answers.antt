@@ -1,3 +1,4 @@
+-- `repair::row_refusal` meets its contract: each test in its turn.
 use mathlib.Core.Path.{◌≡◌, sym, ◌∙◌}
 use mathlib.Core.Bool.{true}
 use Rattle.repair.specs.Service.{row_numbers}

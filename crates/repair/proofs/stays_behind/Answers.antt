@@ -1,6 +1,5 @@
+-- `repair::stays_behind` meets its contract: with the lots passed, lot q may stay.
 use mathlib.Core.Path.{sym, ◌∙◌}
-use mathlib.Core.Bool.{true}
-use Prim.Native.Nat.{◌-◌}
 use native.Mathlib.Omega.{arith}
 use Rattle.lex.proofs.Every.{every_none, every_step, every_false, every_end}
 use Rattle.repair.proofs.Ahead.{stays_here}

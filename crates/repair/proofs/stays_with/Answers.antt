@@ -1,3 +1,4 @@
+-- `repair::stays_with` meets its contract.
 use mathlib.Core.Path.{◌∙◌}
 use Rattle.repair.proofs.Ahead.{stays_same, stays_other}
 use Rattle.repair.proofs.stays_with.Goals as goal

@@ -1,3 +1,4 @@
+-- `repair::yields_slot` meets its contract.
 use borrow.Author.Tests.{eq-eqb, ne_eqb}
 use Rattle.repair.specs.Repair.{yields}
 use Rattle.repair.proofs.yields_slot.Goals as goal

@@ -1,3 +1,4 @@
+-- `robust::is_break` meets its contract.
 use mathlib.Core.Path.{sym, ◌∙◌, ap₂}
 use Rattle.week.specs.Rules.{bit_of}
 use Rattle.robust.proofs.Rows.{breaks_both}

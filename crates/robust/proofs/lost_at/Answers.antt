@@ -1,3 +1,4 @@
+-- `robust::lost_at` meets its contract: a row below n stands for its lot, one behind those for its pair.
 use mathlib.Core.Path.{refl, sym, ◌∙◌}
 use Prim.Native.Nat.{◌-◌}
 use native.Mathlib.Omega.{arith}

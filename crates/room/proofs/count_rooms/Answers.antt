@@ -1,5 +1,5 @@
+-- `room::count_rooms` meets its contract: the lots passed are counted, each in its group.
 use mathlib.Core.Path.{sym, ◌∙◌}
-use Prim.Native.Nat.{◌-◌}
 use native.Mathlib.Omega.{arith}
 use Rattle.room.proofs.Room.{counted_start, counted_placed, counted_beyond, counted_more, counted_all, crowd_small}
 use Rattle.room.proofs.count_rooms.Goals as goal

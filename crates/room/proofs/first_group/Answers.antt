@@ -1,8 +1,7 @@
+-- `room::first_group` meets its contract: the groups passed do not take the lot in.
 use mathlib.Core.Path.{refl, sym, ◌∙◌}
-use Prim.Native.Nat.{◌-◌}
 use native.Mathlib.Omega.{arith}
 use Rattle.lex.proofs.Scan.{scan_miss, scan_hit, scan_end}
-use Rattle.room.specs.Grouped.{takes_in}
 use Rattle.room.proofs.first_group.Goals as goal
 
 pub loop-g-init : goal.loop-g-init

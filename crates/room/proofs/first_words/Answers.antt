@@ -1,4 +1,4 @@
-use Prim.Native.Nat.{◌-◌}
+-- `room::first_words` meets its contract: the words of the lots passed are made.
 use native.Mathlib.Omega.{arith}
 use Rattle.room.proofs.Words.{made_start, made_next, made_all}
 use Rattle.room.proofs.first_words.Goals as goal

@@ -1,4 +1,4 @@
-use Prim.Native.Nat.{◌-◌}
+-- `room::groups` meets its contract: the lots passed have their groups.
 use native.Mathlib.Omega.{arith}
 use Rattle.room.proofs.Grouped.{grouped_start, grouped_next, grouped_all}
 use Rattle.room.proofs.groups.Goals as goal

@@ -1,6 +1,5 @@
+-- `room::has_room` meets its contract: the groups passed have room.
 use mathlib.Core.Path.{sym}
-use mathlib.Core.Bool.{true}
-use Prim.Native.Nat.{◌-◌}
 use native.Mathlib.Omega.{arith}
 use Rattle.lex.proofs.Every.{every_none, every_step, every_false, every_end}
 use Rattle.room.specs.Room.{room_by}

@@ -1,6 +1,6 @@
+-- `room::is_apart` meets its contract: the two lots do not meet in the slots passed.
 use mathlib.Core.Path.{sym, ◌∙◌, ap}
-use mathlib.Core.Bool.{true, not}
-use Prim.Native.Nat.{◌-◌}
+use mathlib.Core.Bool.{not}
 use native.Mathlib.Omega.{arith}
 use Rattle.lex.proofs.Every.{every_none, every_step, every_false, every_end}
 use Rattle.room.specs.Grouped.{meet, apart}

@@ -1,3 +1,4 @@
+-- `room::is_borne` meets its contract.
 use Rattle.room.proofs.Grouped.{bears_other, bears_own}
 use Rattle.room.proofs.is_borne.Goals as goal
 

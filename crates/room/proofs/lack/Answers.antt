@@ -1,3 +1,4 @@
+-- `room::lack` meets its contract.
 use Rattle.room.proofs.Room.{lacks_none, lacks_some}
 use Rattle.room.proofs.lack.Goals as goal
 

@@ -1,3 +1,4 @@
+-- `room::lesser_of` meets its contract.
 use native.Mathlib.Omega.{arith}
 use Rattle.room.proofs.Room.{lesser_first, lesser_second}
 use Rattle.room.proofs.lesser_of.Goals as goal

@@ -1,3 +1,4 @@
+-- `room::met_word` meets its contract.
 use mathlib.Core.Path.{◌∙◌, ap₂}
 use lib.Bits.{bit_and}
 use Rattle.room.proofs.Words.{met_own, met_other}

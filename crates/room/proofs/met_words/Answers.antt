@@ -1,6 +1,5 @@
-use Prim.Native.Nat.{◌-◌}
+-- `room::met_words` meets its contract: the words of the lots passed are made.
 use native.Mathlib.Omega.{arith}
-use Rattle.room.specs.Words.{met_word}
 use Rattle.room.proofs.Words.{made_start, made_next, made_all}
 use Rattle.room.proofs.met_words.Goals as goal
 

@@ -1,4 +1,4 @@
-use Prim.Native.Nat.{◌-◌}
+-- `room::slack` meets its contract: of the groups passed, the least slack is kept.
 use native.Mathlib.Omega.{arith}
 use Rattle.room.specs.Room.{slack_by}
 use Rattle.room.proofs.Room.{least_start, least_next, least_end}

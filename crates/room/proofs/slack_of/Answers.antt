@@ -1,3 +1,4 @@
+-- `room::slack_of` meets its contract. A word has at most 16 slots.
 use native.Mathlib.Omega.{arith}
 use lib.Count.{ones-le}
 use Rattle.room.proofs.Room.{slack_single, slack_none_left, slack_left}

@@ -1,6 +1,5 @@
+-- `room::takes_in` meets its contract: the lots passed do not keep the lot out.
 use mathlib.Core.Path.{sym, ◌∙◌}
-use mathlib.Core.Bool.{true}
-use Prim.Native.Nat.{◌-◌}
 use native.Mathlib.Omega.{arith}
 use Rattle.lex.proofs.Every.{every_none, every_step, every_false, every_end}
 use Rattle.room.proofs.Grouped.{takes_other, takes_own}

@@ -1,5 +1,5 @@
+-- `room::words_of` meets its contract: the lots passed have taken their slots.
 use mathlib.Core.Path.{sym, ◌∙◌}
-use Prim.Native.Nat.{◌-◌}
 use native.Mathlib.Omega.{arith}
 use Rattle.room.proofs.Words.{met_start, met_skip, met_place, met_end}
 use Rattle.room.proofs.words_of.Goals as goal

@@ -1,5 +1,5 @@
+-- `sheet::all_fresh` meets its contract: the moves passed are fresh.
 use mathlib.Core.Path.{refl, sym, ◌∙◌}
-use Prim.Native.Nat.{◌-◌}
 use native.Mathlib.Omega.{arith}
 use Rattle.sheet.specs.Moves.{fresh_move, fresh}
 use Rattle.sheet.proofs.Moves.{every_bad, every_more, every_done}

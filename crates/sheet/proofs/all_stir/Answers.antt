@@ -1,5 +1,5 @@
+-- `sheet::all_stir` meets its contract: the moves passed are to other slots.
 use mathlib.Core.Path.{refl, sym, ◌∙◌}
-use Prim.Native.Nat.{◌-◌}
 use native.Mathlib.Omega.{arith}
 use Rattle.sheet.proofs.Moves.{every_bad, every_more, every_done}
 use Rattle.sheet.proofs.all_stir.Goals as goal

@@ -1,3 +1,4 @@
+-- `sheet::answer_of` meets its contract: each check in its turn.
 use mathlib.Core.Bool.{true}
 use mathlib.Core.Path.{◌≡◌, sym, ◌∙◌}
 use Prim.Native.Nat.{◌≤◌}

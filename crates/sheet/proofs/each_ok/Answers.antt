@@ -1,7 +1,6 @@
+-- `sheet::each_ok` meets its contract: the moves passed are right.
 use mathlib.Core.Path.{refl, sym, ◌∙◌}
-use Prim.Native.Nat.{◌-◌}
 use native.Mathlib.Omega.{arith}
-use Rattle.sheet.specs.Moves.{move_ok}
 use Rattle.sheet.proofs.Moves.{every_bad, every_more, every_done}
 use Rattle.sheet.proofs.each_ok.Goals as goal
 

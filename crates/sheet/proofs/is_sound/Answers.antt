@@ -1,10 +1,10 @@
+-- `sheet::is_sound` meets its contract: each test in its turn.
 use mathlib.Core.Path.{◌≡◌, sym, ◌∙◌}
 use native.Mathlib.Omega.{arith}
 use lib.ListN.{length}
 use borrow.Author.Rules.{rules as needs}
 use Rattle.lex.proofs.Every.{not_both}
 use Rattle.week.specs.Rules.{rules}
-use Rattle.week.specs.Tables.{lots}
 use Rattle.sheet.proofs.Services.{sound_good, sound_bad}
 use Rattle.sheet.proofs.is_sound.Goals as goal
 

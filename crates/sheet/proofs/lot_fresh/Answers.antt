@@ -1,6 +1,5 @@
-use mathlib.Core.Bool.{true}
+-- `sheet::lot_fresh` meets its contract: the lots passed are fresh.
 use mathlib.Core.Path.{sym, ◌∙◌}
-use Prim.Native.Nat.{◌-◌}
 use native.Mathlib.Omega.{arith}
 use Rattle.lex.proofs.Every.{every_none, every_step, every_false, every_end}
 use Rattle.sheet.specs.Moves.{fresh_lot}

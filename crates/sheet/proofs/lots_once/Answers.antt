@@ -1,5 +1,5 @@
+-- `sheet::lots_once` meets its contract: the lots passed are named by no later move.
 use mathlib.Core.Path.{refl, sym, ◌∙◌}
-use Prim.Native.Nat.{◌-◌}
 use native.Mathlib.Omega.{arith}
 use Rattle.sheet.proofs.Moves.{once_bad, once_more, once_done}
 use Rattle.sheet.proofs.lots_once.Goals as goal

@@ -1,3 +1,4 @@
+-- `sheet::lots_stand` meets its contract: the half of the pairs that the code looks at is enough.
 use mathlib.Core.Path.{sym, ◌∙◌}
 use lib.Seq.{length-take-le}
 use Rattle.week.specs.Rules.{rules}

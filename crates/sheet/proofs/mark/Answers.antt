@@ -1,5 +1,6 @@
+-- `sheet::mark` meets its contract: the moves passed are marked, and those left make the same marks of it.
 use mathlib.Core.Path.{refl, sym, ◌∙◌, ap}
-use Prim.Native.Nat.{◌-◌, ◌+◌}
+use Prim.Native.Nat.{◌+◌}
 use native.Mathlib.Omega.{arith}
 use lib.ListN.{length, drop, get_or, length-set}
 use borrow.Author.Rules.{rules}

@@ -1,3 +1,4 @@
+-- `sheet::mark_fresh` meets its contract.
 use mathlib.Core.Bool.{not}
 use mathlib.Core.Path.{◌∙◌, ap}
 use native.Mathlib.Omega.{arith}

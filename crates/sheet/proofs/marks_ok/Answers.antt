@@ -1,5 +1,5 @@
+-- `sheet::marks_ok` meets its contract: the marks passed are not above the save number.
 use mathlib.Core.Path.{sym}
-use Prim.Native.Nat.{◌-◌}
 use native.Mathlib.Omega.{arith}
 use lib.ListN.{get_or}
 use borrow.Author.Tests.{le-leb, lt-leb}

@@ -1,3 +1,4 @@
+-- `sheet::move_ok` meets its contract.
 use mathlib.Core.Path.{◌∙◌, ap}
 use Prim.Native.Nat.{ℕ}
 use native.Mathlib.Omega.{arith}

@@ -1,3 +1,4 @@
+-- `sheet::move_stirs` meets its contract.
 use mathlib.Core.Bool.{not}
 use mathlib.Core.Path.{ap}
 use Prim.Native.Nat.{ℕ}

@@ -1,3 +1,4 @@
+-- `sheet::moved` meets its contract.
 use mathlib.Core.Path.{ap₂}
 use mathlib.Core.List.{List}
 use Prim.Native.Nat.{ℕ, ◌+◌}

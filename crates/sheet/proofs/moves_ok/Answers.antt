@@ -1,3 +1,4 @@
+-- `sheet::moves_ok` meets its contract: each test in its turn.
 use mathlib.Core.Path.{sym, ◌∙◌}
 use native.Mathlib.Omega.{arith}
 use Rattle.lex.proofs.Every.{not_both}

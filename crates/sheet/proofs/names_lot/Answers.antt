@@ -1,5 +1,5 @@
+-- `sheet::names_lot` meets its contract: no move passed names the lot.
 use mathlib.Core.Path.{refl, ◌∙◌}
-use Prim.Native.Nat.{◌-◌}
 use native.Mathlib.Omega.{arith}
 use Rattle.sheet.proofs.Moves.{names_here, names_more, names_done}
 use Rattle.sheet.proofs.names_lot.Goals as goal

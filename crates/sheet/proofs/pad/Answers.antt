@@ -1,5 +1,6 @@
+-- `sheet::pad` meets its contract: the places passed are the order's, the others still 0.
 use mathlib.Core.Path.{◌≡◌, ◌∙◌, ap}
-use Prim.Native.Nat.{ℕ, ◌-◌}
+use Prim.Native.Nat.{ℕ}
 use native.Mathlib.Omega.{arith}
 use lib.ListN.{set, take}
 use Rattle.lex.specs.Lists.{padded}

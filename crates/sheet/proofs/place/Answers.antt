@@ -1,5 +1,6 @@
+-- `sheet::place` meets its contract: the moves passed are placed, and those left make the same order of it.
 use mathlib.Core.Path.{refl, ◌∙◌, ap}
-use Prim.Native.Nat.{◌-◌, ◌+◌}
+use Prim.Native.Nat.{◌+◌}
 use native.Mathlib.Omega.{arith}
 use lib.ListN.{drop}
 use Rattle.sheet.specs.Moves.{moves_of, placed_all}

@@ -1,3 +1,4 @@
+-- `sheet::put_moves` meets its contract: refused, the sheet is as it was.
 use mathlib.Core.Path.{sym, ◌∙◌}
 use Rattle.week.specs.Tables.{week}
 use Rattle.sheet.proofs.Services.{save_passed, save_refused, save_done}

@@ -1,3 +1,4 @@
+-- `sheet::result_ok` meets its contract: a move that is idle settles it; else the order with the moves does.
 use mathlib.Core.Path.{◌≡◌, sym, ◌∙◌, ap}
 use native.Mathlib.Omega.{arith}
 use lib.ListN.{length}

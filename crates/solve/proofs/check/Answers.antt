@@ -1,3 +1,4 @@
+-- `solve::check` meets its contract: each answer in its turn.
 use mathlib.Core.Path.{◌≡◌, sym, ◌∙◌}
 use mathlib.Core.Bool.{true}
 use native.Mathlib.Omega.{arith}

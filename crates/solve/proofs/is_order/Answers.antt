@@ -1,6 +1,5 @@
+-- `solve::is_order` meets its contract: the lots passed stand where the order has them.
 use mathlib.Core.Path.{sym, ◌∙◌}
-use mathlib.Core.Bool.{true}
-use Prim.Native.Nat.{◌-◌}
 use native.Mathlib.Omega.{arith}
 use Rattle.lex.proofs.Every.{every_none, every_step, every_false, every_end}
 use Rattle.lex.proofs.Lists.{same_here, differ_here, same_places}

@@ -1,3 +1,4 @@
+-- `solve::is_right` meets its contract: a row that need not be mended, and one that must.
 use mathlib.Core.Path.{sym, ◌∙◌}
 use native.Mathlib.Omega.{arith}
 use Rattle.week.proofs.Tables.{accepted}

@@ -1,3 +1,4 @@
+-- `solve::put_row` meets its contract: the order, and over it what was found.
 use mathlib.Core.Path.{◌≡◌, sym, ◌∙◌}
 use native.Mathlib.Omega.{arith}
 use lib.ListN.{take}

@@ -1,3 +1,4 @@
+-- `solve::put_rows` meets its contract: the rows passed stand one behind the other.
 use mathlib.Core.Path.{◌≡◌, refl, sym, ◌∙◌, ap}
 use mathlib.Core.List.{[]}
 use Prim.Native.Nat.{◌+◌, ◌-◌, ◌*◌, ◌≤◌}

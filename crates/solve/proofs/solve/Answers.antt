@@ -1,3 +1,4 @@
+-- `solve::solve` meets its contract: each answer in its turn.
 use mathlib.Core.Path.{◌≡◌, sym, ◌∙◌}
 use mathlib.Core.Bool.{true}
 use borrow.Author.Tests.{not-true, not-false}

@@ -1,3 +1,4 @@
+-- `solve::table_admits` meets its contract.
 use mathlib.Core.Path.{sym, ◌∙◌}
 use Rattle.week.proofs.Tables.{joined_admits}
 use Rattle.solve.proofs.Service.{numbers_fine, numbers_refused}

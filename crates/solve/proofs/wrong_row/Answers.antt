@@ -1,5 +1,6 @@
+-- `solve::wrong_row` meets its contract: the scan from the row in turn gives what the whole scan gives.
 use mathlib.Core.Path.{◌≡◌, refl, sym, ◌∙◌}
-use Prim.Native.Nat.{◌+◌, ◌-◌, ◌*◌, ◌≤◌}
+use Prim.Native.Nat.{◌+◌, ◌*◌, ◌≤◌}
 use native.Mathlib.Omega.{arith}
 use lib.ListN.{length}
 use Rattle.lex.proofs.Scan.{scan_miss, scan_hit, scan_end}

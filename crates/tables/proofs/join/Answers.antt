@@ -1,3 +1,4 @@
+-- `tables::join` meets its contract.
 use borrow.Author.Tests.{eq-eqb, ne_eqb}
 use Rattle.week.specs.Tables.{joined}
 use Rattle.tables.proofs.join.Goals as goal

@@ -1,3 +1,4 @@
+-- `tables::judge` meets its contract: each check in its turn.
 use mathlib.Core.Path.{sym, ◌∙◌}
 use Prim.Native.Nat.{◌≤◌}
 use native.Mathlib.Omega.{arith}

@@ -1,3 +1,4 @@
+-- `tables::lengths_ok` meets its contract: the square of n is small.
 use native.Mathlib.Omega.{arith}
 use Rattle.week.proofs.Words.{square_small}
 use Rattle.week.proofs.Tables.{lengths_good, lengths_bad}

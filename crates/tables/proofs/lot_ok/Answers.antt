@@ -1,3 +1,4 @@
+-- `tables::lot_ok` meets its contract.
 use mathlib.Core.Path.{sym, ◌∙◌}
 use mathlib.Core.Bool.{and-false}
 use borrow.Author.Tests.{eq-eqb, ne_eqb}

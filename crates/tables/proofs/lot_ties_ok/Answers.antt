@@ -1,9 +1,8 @@
-use mathlib.Core.Bool.{true}
+-- `tables::lot_ties_ok` meets its contract: the pairs passed are right.
 use mathlib.Core.Path.{sym, ◌∙◌}
-use Prim.Native.Nat.{◌-◌}
 use native.Mathlib.Omega.{arith}
 use Rattle.lex.proofs.Every.{every_none, every_step, every_false, every_end}
-use Rattle.week.specs.Tables.{pair_ok, lot_ties_half}
+use Rattle.week.specs.Tables.{lot_ties_half}
 use Rattle.tables.proofs.lot_ties_ok.Goals as goal
 
 pub loop-q-init : goal.loop-q-init

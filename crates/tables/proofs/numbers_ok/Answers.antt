@@ -1,3 +1,4 @@
+-- `tables::numbers_ok` meets its contract: every number that passed is within its limits.
 use mathlib.Core.Path.{sym, ◌∙◌}
 use native.Mathlib.Omega.{arith}
 use Rattle.lex.proofs.Every.{not_both}

@@ -1,9 +1,8 @@
-use mathlib.Core.Bool.{true}
+-- `tables::pair_ok` meets its contract: the words passed are right.
 use mathlib.Core.Path.{sym, ◌∙◌}
-use Prim.Native.Nat.{◌-◌}
 use native.Mathlib.Omega.{arith}
 use Rattle.lex.proofs.Every.{every_none, every_step, every_false, every_end}
-use Rattle.week.specs.Tables.{word_ok, pair_ok}
+use Rattle.week.specs.Tables.{pair_ok}
 use Rattle.tables.proofs.pair_ok.Goals as goal
 
 pub loop-v-init : goal.loop-v-init

@@ -1,6 +1,5 @@
-use mathlib.Core.Bool.{true}
+-- `tables::ties_ok` meets its contract: the lots passed are right beside those before them.
 use mathlib.Core.Path.{sym, ◌∙◌}
-use Prim.Native.Nat.{◌-◌}
 use native.Mathlib.Omega.{arith}
 use Rattle.lex.proofs.Every.{every_none, every_step, every_false, every_end}
 use Rattle.week.specs.Tables.{ties_ok}

@@ -1,6 +1,7 @@
-use mathlib.Core.Bool.{true, beq}
+-- `tables::word_ok` meets its contract: the word has no bit outside the domains, and the bits passed agree with their mirrors.
+use mathlib.Core.Bool.{beq}
 use mathlib.Core.Path.{◌≡◌, sym, ◌∙◌, ap, ap₂}
-use Prim.Native.Nat.{ℕ, ◌-◌}
+use Prim.Native.Nat.{ℕ}
 use native.Mathlib.Omega.{arith}
 use Rattle.lex.proofs.Every.{every_none, every_step, every_end, not_both}
 use Rattle.week.specs.Rules.{rules, bit_of, inside, together, tie_word}

@@ -1,9 +1,8 @@
-use mathlib.Core.Bool.{true}
+-- `tables::words_ok` meets its contract: the words passed are right.
 use mathlib.Core.Path.{sym, ◌∙◌}
-use Prim.Native.Nat.{◌-◌}
 use native.Mathlib.Omega.{arith}
 use Rattle.lex.proofs.Every.{every_none, every_step, every_false, every_end}
-use Rattle.week.specs.Tables.{lot_ok_at, words_ok}
+use Rattle.week.specs.Tables.{words_ok}
 use Rattle.tables.proofs.words_ok.Goals as goal
 
 pub loop-p-init : goal.loop-p-init

@@ -1,3 +1,4 @@
+-- `week::bit` meets its contract: a slot over 15 is in no word, any other is the digit that the shift leaves.
 use mathlib.Core.Path.{refl}
 use borrow.Author.Tests.{le-ltb, lt-ltb}
 use Rattle.week.specs.Rules.{bit_of}

@@ -1,6 +1,6 @@
-use mathlib.Core.Bool.{true}
+-- `week::fits_at` meets its contract: the lots passed stand beside the slot.
 use mathlib.Core.Path.{◌≡◌, sym, ◌∙◌, ap}
-use Prim.Native.Nat.{ℕ, ◌-◌}
+use Prim.Native.Nat.{ℕ}
 use native.Mathlib.Omega.{arith}
 use Rattle.lex.proofs.Every.{every_none, every_step}
 use Rattle.week.specs.Rules.{rules, bit_of, in_domain}

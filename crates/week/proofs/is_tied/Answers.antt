@@ -1,6 +1,5 @@
-use mathlib.Core.Bool.{true}
+-- `week::is_tied` meets its contract: no slot passed is one in which the lots may not stand together.
 use mathlib.Core.Path.{◌≡◌, sym, ◌∙◌}
-use Prim.Native.Nat.{◌-◌}
 use native.Mathlib.Omega.{arith}
 use Rattle.lex.proofs.Every.{every_none, every_step}
 use Rattle.week.proofs.Rules.{tied_same, tied_some, tied_none}

@@ -1,9 +1,8 @@
-use mathlib.Core.Bool.{true}
+-- `week::keeps_rules` meets its contract: the lots passed stand well.
 use mathlib.Core.Path.{sym, ◌∙◌}
-use Prim.Native.Nat.{◌-◌}
 use native.Mathlib.Omega.{arith}
 use Rattle.lex.proofs.Every.{every_none, every_step, every_false, every_end}
-use Rattle.week.specs.Rules.{lot_fits, keeps_half}
+use Rattle.week.specs.Rules.{keeps_half}
 use Rattle.week.proofs.keeps_rules.Goals as goal
 
 pub loop-p-init : goal.loop-p-init

@@ -1,3 +1,4 @@
+-- `week::lot_fits` meets its contract.
 use mathlib.Core.Path.{◌∙◌, ap}
 use Rattle.week.specs.Rules.{rules, fits, lot_fits}
 use Rattle.week.proofs.lot_fits.Goals as goal

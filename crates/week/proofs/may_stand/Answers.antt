@@ -1,3 +1,4 @@
+-- `week::may_stand` meets its contract.
 use mathlib.Core.Path.{◌∙◌, ap}
 use Prim.Native.Nat.{ℕ}
 use Rattle.week.specs.Rules.{bit_of}

@@ -1,3 +1,4 @@
+-- `week::stands_beside` meets its contract.
 use mathlib.Core.Path.{◌∙◌, ap}
 use Rattle.week.specs.Rules.{bit_of, tie_word, together, beside}
 use Rattle.week.proofs.stands_beside.Goals as goal

@@ -1,4 +1,5 @@
-use mathlib.Core.Path.{◌≡◌, sym, ◌∙◌, ap}
+-- `week::stands_free` meets its contract.
+use mathlib.Core.Path.{sym, ◌∙◌, ap}
 use Prim.Native.Nat.{ℕ}
 use Rattle.week.specs.Rules.{rules, bit_of, in_domain}
 use Rattle.week.proofs.Rules.{free_out, free_in}

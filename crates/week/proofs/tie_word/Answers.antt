@@ -1,3 +1,4 @@
+-- `week::tie_word` meets its contract: the place of a word fits a usize, whatever the numbers, and beyond the table stands 0.
 use Prim.Native.Nat.{◌*◌, ◌≤◌}
 use borrow.Author.Rules.{rules}
 use native.Mathlib.Omega.{arith}

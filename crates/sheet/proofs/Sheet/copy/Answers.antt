@@ -1,3 +1,4 @@
+-- `sheet::Sheet::copy` meets its contract: each check in its turn.
 use mathlib.Core.Path.{◌≡◌, sym, ◌∙◌}
 use native.Mathlib.Omega.{arith}
 use lib.ListN.{length}
