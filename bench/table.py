@@ -21,7 +21,7 @@ def tried_by(week, limit):
     """How many partial orders the proved solve tries on a week, as the program `tried` prints it."""
     try:
         with open(week, "rb") as file:
-            done = subprocess.run(["bin/run", "target/bin/tried"], stdin=file, capture_output=True, text=True, timeout=limit, check=True)
+            done = subprocess.run(["bin/run", "crates/tried/out/tried"], stdin=file, capture_output=True, text=True, timeout=limit, check=True)
     except subprocess.TimeoutExpired:
         return None
     return int(done.stdout)

@@ -9,8 +9,10 @@ import os
 import re
 import sys
 
-FUNCTION = re.compile(r'^\s*pub\s+(?:extern\s+"C"\s+)?fn\s+(\w+)', re.M)
-IMPL = re.compile(r"^impl\s+(\w+)\s*\{(.*?)^\}", re.M | re.S)
+FUNCTION = re.compile(r'^\s*pub\s+(?:const\s+)?(?:unsafe\s+)?(?:extern\s+"C"\s+)?fn\s+(\w+)', re.M)
+IMPL = re.compile(r"^impl(?:<[^>]*>)?\s+(\w+)[^{}]*\{(.*?)^\}", re.M | re.S)
+# What stands before the braces of a clause: 'ensures {', 'ensures name {', 'requires* {'.
+CLAUSE = re.compile(r"\b(requires|ensures)\*?(\s+\w+)?$")
 ROW = re.compile(r"^\| `(\w+::[\w:]+)` \|(.*)\|$", re.M)
 
 
@@ -19,8 +21,7 @@ def header(text, at):
     depth, i = 0, at
     while i < len(text):
         if text[i] == "{":
-            clause = re.search(r"(requires|ensures|ghost|measure|decreases)(\s+\w+)?$", text[at:i].rstrip())
-            if depth == 0 and not clause:
+            if depth == 0 and not CLAUSE.search(text[at:i].rstrip()):
                 break
             depth += 1
         elif text[i] == "}":

@@ -2,91 +2,113 @@
 // must be printed.
 #![tactic(auto)]
 
-use libc::STDOUT_FILENO;
+ghost use Rattle.std.specs.Prelude.{◌≤◌, length, IfOk};
+
+use std::io::Read;
+use std::rt::Files;
+use std::{fs, io};
+
+// Reads until the buffer is full or the input ends, and answers how many bytes were read.
+fn read_full<R: Read>(input: &mut R, buffer: &mut [u8]) -> io::Result<usize>
+    ensures { IfOk result (λ size. size ≤ length buffer.new) }
+{
+    let mut size = 0;
+    while size < buffer.len() {
+        let more = input.read(&mut buffer[size..])?;
+        if more == 0 {
+            break;
+        }
+        size += more;
+    }
+    Ok(size)
+}
 
 // The name of a file, then its text.
-fn case(name: &[u8]) {
-    io::write_all(STDOUT_FILENO, name);
-    io::write_all(STDOUT_FILENO, b"\n");
-    let fd = os::open_read(name);
-    if fd < 0 {
-        os::fail(name);
-        return;
-    }
+fn case(rt: &(impl Files + Print + Eprint), name: &str) -> io::Result<()> {
+    println!(rt; "{name}")?;
+    let mut opened = match fs::open(rt, name) {
+        Ok(opened) => opened,
+        Err(error) => return eprintln!(rt; "{name}: {error}"),
+    };
     let mut file = [0u8; 9217];
-    let size = io::read_full(fd, &mut file);
-    libc::close(fd);
+    let size = read_full(&mut opened, &mut file)?;
     let mut text = [0u8; 25600];
     let printed = print::plan_text(&file[..size], &mut text);
     let end = printed.length;
-    io::write_all(STDOUT_FILENO, &text[..end]);
+    rt.write_all(&text[..end])
 }
 
 // The worked weeks of document 01.
-fn worked_weeks() {
-    case(b"f_00.blk");
-    case(b"f_10.blk");
-    case(b"f_11.blk");
-    case(b"f_12.blk");
-    case(b"f_20.blk");
-    case(b"f_later.blk");
-    case(b"f_later_firm.blk");
-    case(b"one_lot.blk");
-    case(b"one_lot_firm.blk");
-    case(b"two_lots_10.blk");
-    case(b"two_lots_11.blk");
+fn worked_weeks(rt: &(impl Files + Print + Eprint)) -> io::Result<()> {
+    case(rt, "f_00.blk")?;
+    case(rt, "f_10.blk")?;
+    case(rt, "f_11.blk")?;
+    case(rt, "f_12.blk")?;
+    case(rt, "f_20.blk")?;
+    case(rt, "f_later.blk")?;
+    case(rt, "f_later_firm.blk")?;
+    case(rt, "one_lot.blk")?;
+    case(rt, "one_lot_firm.blk")?;
+    case(rt, "two_lots_10.blk")?;
+    case(rt, "two_lots_11.blk")?;
+    Ok(())
 }
 
 // One lot that has another slot, four lots, and 24.
-fn other_weeks() {
-    case(b"one_lot_two_slots.blk");
-    case(b"four_apart_20.blk");
-    case(b"four_apart_23.blk");
-    case(b"four_apart_gap.blk");
-    case(b"free_spread.blk");
-    case(b"free_high.blk");
+fn other_weeks(rt: &(impl Files + Print + Eprint)) -> io::Result<()> {
+    case(rt, "one_lot_two_slots.blk")?;
+    case(rt, "four_apart_20.blk")?;
+    case(rt, "four_apart_23.blk")?;
+    case(rt, "four_apart_gap.blk")?;
+    case(rt, "free_spread.blk")?;
+    case(rt, "free_high.blk")?;
+    Ok(())
 }
 
 // Files of a wrong length, check or number.
-fn wrong_blocks() {
-    case(b"g1easy_23_s0.blk");
-    case(b"g1later_21_s0.blk");
-    case(b"empty.blk");
-    case(b"short.blk");
-    case(b"long.blk");
-    case(b"block_missing.blk");
-    case(b"block_too_many.blk");
-    case(b"check.blk");
-    case(b"number.blk");
-    case(b"number_last.blk");
+fn wrong_blocks(rt: &(impl Files + Print + Eprint)) -> io::Result<()> {
+    case(rt, "g1easy_23_s0.blk")?;
+    case(rt, "g1later_21_s0.blk")?;
+    case(rt, "empty.blk")?;
+    case(rt, "short.blk")?;
+    case(rt, "long.blk")?;
+    case(rt, "block_missing.blk")?;
+    case(rt, "block_too_many.blk")?;
+    case(rt, "check.blk")?;
+    case(rt, "number.blk")?;
+    case(rt, "number_last.blk")?;
+    Ok(())
 }
 
 // Numbers outside their limits.
-fn wrong_numbers() {
-    case(b"n_0.blk");
-    case(b"n_25.blk");
-    case(b"a_3.blk");
-    case(b"b_4.blk");
-    case(b"alternative_2.blk");
-    case(b"gap_alone.blk");
-    case(b"helper_2.blk");
-    case(b"gap_16.blk");
+fn wrong_numbers(rt: &(impl Files + Print + Eprint)) -> io::Result<()> {
+    case(rt, "n_0.blk")?;
+    case(rt, "n_25.blk")?;
+    case(rt, "a_3.blk")?;
+    case(rt, "b_4.blk")?;
+    case(rt, "alternative_2.blk")?;
+    case(rt, "gap_alone.blk")?;
+    case(rt, "helper_2.blk")?;
+    case(rt, "gap_16.blk")?;
+    Ok(())
 }
 
 // Filling and tables that break their rules.
-fn wrong_tables() {
-    case(b"filling.blk");
-    case(b"domain_empty.blk");
-    case(b"loss_outside.blk");
-    case(b"give_outside.blk");
-    case(b"tie_outside_own.blk");
-    case(b"tie_outside_other.blk");
+fn wrong_tables(rt: &(impl Files + Print + Eprint)) -> io::Result<()> {
+    case(rt, "filling.blk")?;
+    case(rt, "domain_empty.blk")?;
+    case(rt, "loss_outside.blk")?;
+    case(rt, "give_outside.blk")?;
+    case(rt, "tie_outside_own.blk")?;
+    case(rt, "tie_outside_other.blk")?;
+    Ok(())
 }
 
-fn main() {
-    worked_weeks();
-    other_weeks();
-    wrong_blocks();
-    wrong_numbers();
-    wrong_tables();
+fn main(rt: HostRuntime) -> io::Result<()> {
+    worked_weeks(&rt)?;
+    other_weeks(&rt)?;
+    wrong_blocks(&rt)?;
+    wrong_numbers(&rt)?;
+    wrong_tables(&rt)?;
+    Ok(())
 }

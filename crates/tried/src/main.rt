@@ -1,42 +1,54 @@
 // A benchmark: a block file on standard input, and on standard output how many partial orders the search of its week tries, or its refusal.
 #![tactic(auto)]
 
-use libc::{STDIN_FILENO, STDOUT_FILENO};
+ghost use Rattle.std.specs.Prelude.{◌≤◌, length, IfOk};
 
-// A number and the end of a line.
-fn put_line(number: u32) {
-    io::print_decimal(STDOUT_FILENO, number as u64);
-    io::write_all(STDOUT_FILENO, b"\n");
+use std::io;
+use std::io::Read;
+
+// Reads until the buffer is full or the input ends, and answers how many bytes were read.
+fn read_full<R: Read>(input: &mut R, buffer: &mut [u8]) -> io::Result<usize>
+    ensures { IfOk result (λ size. size ≤ length buffer.new) }
+{
+    let mut size = 0;
+    while size < buffer.len() {
+        let more = input.read(&mut buffer[size..])?;
+        if more == 0 {
+            break;
+        }
+        size += more;
+    }
+    Ok(size)
 }
 
 // The buffer holds one byte more than the longest file, as in the printing program.
-fn main() {
+fn main(rt: HostRuntime) -> io::Result<()> {
     let mut file = [0u8; 9217];
-    let size = io::read_full(STDIN_FILENO, &mut file);
+    let size = read_full(&mut rt.stdin(), &mut file)?;
     let mut domain = [0u16; 24];
     let mut loss = [0u16; 24];
     let mut give = [0u16; 24];
     let mut ties = [0u16; 9216];
     let reading = block::read(&file[..size], &mut domain, &mut loss, &mut give, &mut ties);
     if reading.answer != 0 {
-        io::write_all(STDOUT_FILENO, b"refused ");
-        put_line(reading.answer);
-        return;
+        let answer = reading.answer;
+        return println!(rt; "refused {answer}");
     }
     let n = reading.numbers.n;
     if 24 < n {
-        return;
+        return Ok(());
     }
     let lots = n as usize;
     let words = n * n * 16;
     if 9216 < words {
-        return;
+        return Ok(());
     }
-    put_line(solve::tried(
+    let tried = solve::tried(
         reading.numbers,
         &domain[..lots],
         &loss[..lots],
         &give[..lots],
         &ties[..words as usize],
-    ));
+    );
+    println!(rt; "{tried}")
 }
