@@ -2,26 +2,8 @@
 // must be printed.
 #![tactic(auto)]
 
-ghost use Rattle.std.specs.Prelude.{◌≤◌, length, IfOk};
-
-use std::io::Read;
 use std::rt::Files;
 use std::{fs, io};
-
-// Reads until the buffer is full or the input ends, and answers how many bytes were read.
-fn read_full<R: Read>(input: &mut R, buffer: &mut [u8]) -> io::Result<usize>
-    ensures { IfOk result (λ size. size ≤ length buffer.new) }
-{
-    let mut size = 0;
-    while size < buffer.len() {
-        let more = input.read(&mut buffer[size..])?;
-        if more == 0 {
-            break;
-        }
-        size += more;
-    }
-    Ok(size)
-}
 
 // The name of a file, then its text.
 fn case(rt: &(impl Files + Print + Eprint), name: &str) -> io::Result<()> {
@@ -31,7 +13,7 @@ fn case(rt: &(impl Files + Print + Eprint), name: &str) -> io::Result<()> {
         Err(error) => return eprintln!(rt; "{name}: {error}"),
     };
     let mut file = [0u8; 9217];
-    let size = read_full(&mut opened, &mut file)?;
+    let size = input::read_full(&mut opened, &mut file)?;
     let mut text = [0u8; 25600];
     let printed = print::plan_text(&file[..size], &mut text);
     let end = printed.length;

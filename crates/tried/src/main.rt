@@ -1,30 +1,12 @@
 // A benchmark: a block file on standard input, and on standard output how many partial orders the search of its week tries, or its refusal.
 #![tactic(auto)]
 
-ghost use Rattle.std.specs.Prelude.{◌≤◌, length, IfOk};
-
 use std::io;
-use std::io::Read;
-
-// Reads until the buffer is full or the input ends, and answers how many bytes were read.
-fn read_full<R: Read>(input: &mut R, buffer: &mut [u8]) -> io::Result<usize>
-    ensures { IfOk result (λ size. size ≤ length buffer.new) }
-{
-    let mut size = 0;
-    while size < buffer.len() {
-        let more = input.read(&mut buffer[size..])?;
-        if more == 0 {
-            break;
-        }
-        size += more;
-    }
-    Ok(size)
-}
 
 // The buffer holds one byte more than the longest file, as in the printing program.
 fn main(rt: HostRuntime) -> io::Result<()> {
     let mut file = [0u8; 9217];
-    let size = read_full(&mut rt.stdin(), &mut file)?;
+    let size = input::read_full(&mut rt.stdin(), &mut file)?;
     let mut domain = [0u16; 24];
     let mut loss = [0u16; 24];
     let mut give = [0u16; 24];
