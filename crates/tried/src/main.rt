@@ -3,6 +3,11 @@
 
 use std::io;
 
+// A number and the end of a line.
+fn put_line(rt: &impl Print, number: u32) -> io::Result<()> {
+    println!(rt; "{number}")
+}
+
 // The buffer holds one byte more than the longest file, as in the printing program.
 fn main(rt: HostRuntime) -> io::Result<()> {
     let mut file = [0u8; 9217];
@@ -13,8 +18,8 @@ fn main(rt: HostRuntime) -> io::Result<()> {
     let mut ties = [0u16; 9216];
     let reading = block::read(&file[..size], &mut domain, &mut loss, &mut give, &mut ties);
     if reading.answer != 0 {
-        let answer = reading.answer;
-        return println!(rt; "refused {answer}");
+        print!(rt; "refused ")?;
+        return put_line(&rt, reading.answer);
     }
     let n = reading.numbers.n;
     if 24 < n {
@@ -32,5 +37,5 @@ fn main(rt: HostRuntime) -> io::Result<()> {
         &give[..lots],
         &ties[..words as usize],
     );
-    println!(rt; "{tried}")
+    put_line(&rt, tried)
 }
