@@ -17,6 +17,7 @@ use repair::Lost;
 use week::{Lot, Numbers, Slot};
 
 // To the lots that a part of an order places, those but x of another part.
+#[tactic(auto, using(crate::proofs::Blame::merging_keep))]
 pub fn merge(part: &mut [u8], more: &[u8], x: Lot)
     requires { (length part.old ≡ 24) × (length more.now ≡ 24) }
     ensures { Merged part.old more.now x.0 part.new }

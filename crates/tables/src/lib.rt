@@ -220,6 +220,7 @@ pub fn judge(numbers: Numbers, domain: &[u16], loss: &[u16], give: &[u16], ties:
 }
 
 // The refusal of a service, from the judgement of its numbers and tables and from its own tests of kind 1 and of kind 2.
+#[tactic(auto, unfolding(week::specs::Tables::joined))]
 pub fn join(one: bool, two: bool, judged: u32) -> u32
     ensures { result ≡ joined one two judged }
 {

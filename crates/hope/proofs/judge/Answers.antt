@@ -1,5 +1,6 @@
 -- `hope::judge` meets its contract: each test in its turn.
-use mathlib.Core.Path.{sym, ◌∙◌}
+use mathlib.Core.Path.{◌≡◌, sym, ◌∙◌}
+use native.Mathlib.Omega.{arith}
 use borrow.Author.Tests.{not-true, not-false}
 use Rattle.room.proofs.None.{slack_none}
 use Rattle.hope.proofs.Safe.{going_few}
@@ -12,10 +13,7 @@ pub slack-spare-requires : goal.slack-spare-requires
 slack-spare-requires c = going_few c.requires.0
 
 pub why_crowded-crowded-requires : goal.why_crowded-crowded-requires
-why_crowded-crowded-requires c = (c.requires.0, (c.requires.1, slack_none _ _ _ _ c.requires.0.forward c.requires.1 (sym c.slack-spare.ensures ∙ c.if-spare-eq0.true)))
-
-pub returns-then-spare-eq0 : goal.returns-then-spare-eq0
-returns-then-spare-eq0 c = c.why_crowded-crowded.ensures
+why_crowded-crowded-requires c = (c.requires.0, (c.requires.1, slack_none _ _ _ _ c.requires.0.forward c.requires.1 (let none : c.slack-spare.result ≡ 0 = omega arith in sym c.slack-spare.ensures ∙ none)))
 
 pub slice_bounds-all_safe-end : goal.slice_bounds-all_safe-end
 slice_bounds-all_safe-end c = sym c.requires.0.size

@@ -10,9 +10,6 @@ loop-p-init c = (omega arith, merging_start _ _ _ c.requires.0)
 pub bounds-part-at : goal.bounds-part-at
 bounds-part-at c = omega (arith, c.loop-p.invariant.1.size)
 
-pub loop-p-preserved-then-part-at-lt16 : goal.loop-p-preserved-then-part-at-lt16
-loop-p-preserved-then-part-at-lt16 c = (omega arith, merging_keep c.loop-p.invariant.1 (λ h. absurd (omega arith)))
-
 pub loop-p-preserved-then-at-x : goal.loop-p-preserved-then-at-x
 loop-p-preserved-then-at-x c = (omega arith, merging_keep c.loop-p.invariant.1 (λ h. c.if-at-x.true))
 
@@ -23,7 +20,7 @@ pub bounds-part-at-in-loop-p : goal.bounds-part-at-in-loop-p
 bounds-part-at-in-loop-p c = omega (arith, c.loop-p.invariant.1.size)
 
 pub loop-p-preserved : goal.loop-p-preserved
-loop-p-preserved c = (omega arith, merging_take c.loop-p.invariant.1 _ (omega arith) refl c.if-part-at-lt16.false c.if-at-x.false)
+loop-p-preserved c = (omega arith, merging_take c.loop-p.invariant.1 _ (omega arith) refl (omega arith) c.if-at-x.false)
 
 pub returns : goal.returns
 returns c = merging_end c.loop-p.invariant.1 (omega arith)
