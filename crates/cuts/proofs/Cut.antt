@@ -1,4 +1,4 @@
--- Laws of the cut week. With every lot on it is the week; and one law, `..-shrink`, at each definition: what holds of more lots holds of fewer, in an order
+-- Laws of the cut week. With every lot on it is the week; and one law, `.._shrink`, at each definition: what holds of more lots holds of fewer, in an order
 -- that agrees on those. Assumes nothing.
 use mathlib.Core.Path.{◌≡◌, refl, sym, ◌∙◌, ap, subst}
 use mathlib.Core.Bool.{Bool, true, false, ◌&&◌, ◌||◌, cond, true≢false, and-true, and_self}

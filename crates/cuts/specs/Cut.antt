@@ -1,5 +1,5 @@
 -- A week cut down to some of its lots: the rules, repairs and breaks of the lots that are on, a test of lots. With every lot on they are the week's own
--- (proofs/Cut.antt, `..-whole`). Assumes nothing.
+-- (proofs/Cut.antt, `.._whole`). Assumes nothing.
 use Rattle.std.specs.Prelude.{Bool, true, ◌&&◌, List, ℕ, leb, length, get_or}
 use Rattle.lex.specs.Every.{imp, every, count, every_of}
 use Rattle.lex.specs.First.{first, Passes, always, is_found}
