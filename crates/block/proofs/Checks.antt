@@ -5,7 +5,7 @@ use mathlib.Core.Bool.{Bool, true, false, ◌&&◌, cond}
 use mathlib.Core.Logic.{⊎_elim}
 use mathlib.Core.List.{List}
 use Prim.Native.Nat.{ℕ, zero, suc, ◌+◌, ◌*◌, ◌-◌, ◌/◌, ◌%◌, ◌^◌, ◌≤◌, ◌<◌}
-use native.Mathlib.Nat.{mul-le-mul, pow-suc, pow-le-pow_right, eq-or-lt_of_le, le_of_suc-le-suc, zero-mul, one-mul}
+use native.Mathlib.Nat.{mul-le-mul, pow-suc, pow-le-pow_right, mod-eq_of_lt, eq-or-lt_of_le, le_of_suc-le-suc, zero-mul}
 use native.Mathlib.Omega.{arith}
 use native.Mathlib.Numerals.{add-one}
 use lib.Dec.{eqb, leb}
@@ -13,8 +13,11 @@ use lib.ListN.{length, take, drop}
 use borrow.Author.Tests.{leb-true, le-leb, eqb-true, eq-eqb}
 use Rattle.lex.specs.Every.{one_if}
 use Rattle.lex.specs.Lists.{list_of, padded}
-use Rattle.lex.proofs.Every.{both, and_left, and_right, false_of, each, each_all, one_if_le}
+use Rattle.lex.proofs.Every.{both, and_left, and_right, each, each_all, one_if_le}
 use Rattle.lex.proofs.Lists.{length_list, list_at, list_beyond}
+use Rattle.week.specs.declared.Refusal.{Refusal}
+use Rattle.week.specs.declared.Refusal.TheVariants as V
+use Rattle.week.specs.Refusal.{number}
 use Rattle.week.specs.Rules.{bit_of, inside, word_of}
 use Rattle.week.specs.Tables.{lot_ok, lot_ok_at}
 use Rattle.week.proofs.Tables.{zero_first, zero_rest, halts, runs_on}
@@ -23,8 +26,10 @@ use Rattle.pairs.specs.Pairs.{pair_at, low, high, pair_number}
 use Rattle.pairs.proofs.Numbers.{number_of}
 use Rattle.block.specs.Parts.{or_zero}
 use Rattle.week.specs.declared.Numbers.{Numbers}
-use Rattle.block.specs.Reading.{content_in, word_in, numbers_in, words_at, words_in, buffer_tests, buffers_ok, whole_blocks, holds4, block_refusal, blocks_refusal, tie_held}
+use Rattle.block.specs.Reading.{content_in, word_in, numbers_in, words_at, words_in, pair_word_in, pair_bit_in, buffer_tests, buffers_ok, whole_blocks, holds4, block_refusal, blocks_refusal, tie_held}
 use Rattle.block.proofs.Parts.{list_padded}
+
+-- A refusal has a number
 
 -- 2
 
@@ -44,9 +49,6 @@ pub buffers_good : (d l g t : ℕ) → Buffers d l g t → true ≡ buffers_ok d
 unfolding buffers_ok
 buffers_good d l g t h = sym (each_all (buffer_tests d l g t) (eq-eqb d 24 h.domain, (eq-eqb l 24 h.loss, (eq-eqb g 24 h.give, (eq-eqb t 9216 h.ties, tt)))))
 
-pub buffers_bad : (d l g t : ℕ) → (Buffers d l g t → ⊥) → false ≡ buffers_ok d l g t
-buffers_bad d l g t h = sym (false_of (buffers_ok d l g t) (λ e. h (buffers d l g t e)))
-
 -- 15
 
 pub record Whole (F : List ℕ) : Type 0 where
@@ -63,9 +65,6 @@ whole F e =
       few = leb-true (length F) 9216 (and_left (leb (length F) 9216) (eqb (length F % 512) 0) r);
       whole = eqb-true (length F % 512) 0 (and_right (leb (length F) 9216) (eqb (length F % 512) 0) r);
     }
-
-pub whole_bad : (F : List ℕ) → (Whole F → ⊥) → false ≡ whole_blocks F
-whole_bad F h = sym (false_of (whole_blocks F) (λ e. h (whole F e)))
 
 pub whole_good : (F : List ℕ) → Whole F → whole_blocks F ≡ true
 unfolding whole_blocks
@@ -122,9 +121,6 @@ module _ (F : List ℕ) where
 
 -- Words of the file
 
-pub table_small : {k n : ℕ} → k ≤ 2 → n ≤ 24 → k * n ≤ 48
-table_small h g = mul-le-mul {n₂ = 2} {m₂ = 24} h g
-
 module _ (F : List ℕ) (n k p : ℕ) where
   pub lot_inside : p < n → word_in F (k * n + p) ≡ or_zero (words_in F n k) p
   unfolding or_zero words_in words_at
@@ -160,16 +156,6 @@ tie_held_lem F n i e f g h j k = ap₂ inside j (k ∙ ap₂ (λ (a b : ℕ). co
 
 -- A word from its bits
 
-pub value_out : {t : Bool} (x : ℕ) → t ≡ false → 0 ≡ one_if t * x
-value_out x e = rw e (sym (zero-mul x))
-
-pub value_in : {t : Bool} (x : ℕ) → t ≡ true → x ≡ one_if t * x
-value_in x e = rw e (sym (one-mul x))
-
--- places 0 to 16 have small values
-pub value_small : {w x : ℕ} → w ≤ 16 → x ≡ 2 ^ w → x ≤ 65536
-value_small {w} h e = let p : 2 ^ w ≤ 2 ^ 16 = pow-le-pow_right (omega arith) h in omega arith
-
 pub word_small : (f : ℕ → Bool) (k : ℕ) → word_of f k < 2 ^ k
 unfolding word_of
 word_small f zero = omega arith
@@ -186,12 +172,23 @@ pub word_none : (f : ℕ → Bool) → 0 ≡ word_of f 0
 unfolding word_of
 word_none f = refl
 
-pub word_more : (f : ℕ → Bool) {word value x : ℕ} (w : ℕ) → word ≡ word_of f w → value ≡ 2 ^ w → x ≡ one_if (f w) * value → word + x ≡ word_of f (w + 1)
+-- bit w is put in, or not
+pub word_in_more : (f : ℕ → Bool) {word : ℕ} (w : ℕ) → w < 16 → word ≡ word_of f w → f w ≡ true → word + 1 * 2 ^ w % 65536 ≡ word_of f (w + 1)
 unfolding word_of
-word_more f w e g h = rw add-one (ap₂ ◌+◌ e (h ∙ ap (λ (v : ℕ). one_if (f w) * v) g))
+word_in_more f w l e g =
+    let k : w ≤ 15 = omega arith in
+    let p : 2 ^ w ≤ 2 ^ 15 = pow-le-pow_right (omega arith) k in
+    let m : 1 * 2 ^ w % 65536 ≡ 1 * 2 ^ w = mod-eq_of_lt (omega arith) in
+    rw (add-one, m, e, g) refl
 
-pub value_more : {value : ℕ} (w : ℕ) → value ≡ 2 ^ w → value * 2 ≡ 2 ^ (w + 1)
-value_more w e = rw add-one (ap (λ (v : ℕ). v * 2) e ∙ sym (pow-suc 2 w))
+pub word_out_more : (f : ℕ → Bool) {word : ℕ} (w : ℕ) → word ≡ word_of f w → f w ≡ false → word ≡ word_of f (w + 1)
+unfolding word_of
+word_out_more f w e g = rw (add-one, e, g) (let z = zero-mul (2 ^ w) in omega arith)
+
+-- bit w of the word for the higher lot, from the word of the lower
+pub bit_is : (F : List ℕ) (n p q v w : ℕ) {x : ℕ} {r : Bool} → x ≡ pair_word_in F n p q w → r ≡ bit_of x v → pair_bit_in F n p q v w ≡ r
+unfolding pair_bit_in
+bit_is F n p q v w e f = ap (λ (x : ℕ). bit_of x v) (sym e) ∙ sym f
 
 -- The numbers of a file
 pub numbers_read : (F : List ℕ) {n a b alternative gap helper : ℕ} → n ≡ content_in F 0 → a ≡ content_in F 1 → b ≡ content_in F 2 → alternative ≡ content_in F 3 → gap ≡ content_in F 4 → helper ≡ content_in F 5

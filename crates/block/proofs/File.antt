@@ -1,11 +1,12 @@
 -- Laws of blocks and files: a block put together, a file block by block, and what stands at each place.
 -- Assumes nothing.
-use mathlib.Core.Path.{◌≡◌, sym, ◌∙◌, ap}
+use mathlib.Core.Path.{◌≡◌, sym, ◌∙◌, ap, ap₂}
 use mathlib.Core.List.{List, ◌++◌, append_assoc}
 use Prim.Native.Nat.{ℕ, ◌+◌, ◌*◌, ◌-◌, ◌/◌, ◌%◌, ◌<◌}
 use native.Mathlib.Omega.{arith}
 use lib.ListN.{length, get_or, take, drop, length-append}
 use lib.Seq.{take_at, drop-drop, drop_at}
+use Rattle.std.specs.Int.{w32, to_le_bytes}
 use Rattle.lex.specs.Lists.{list_of}
 use Rattle.lex.proofs.Lists.{length_list, list_cong, list_join}
 use Rattle.week.specs.Tables.{Week}
@@ -13,6 +14,7 @@ use Rattle.block.specs.Fnv.{fnv}
 use Rattle.block.specs.Parts.{or_zero, byte_of}
 use Rattle.block.specs.File.{body_byte, body, block_of, file_byte}
 use Rattle.block.proofs.Parts.{list_self, or_zero_lem}
+use Rattle.block.proofs.Bytes.{bytes_list}
 
 pub length_body : (W : Week) (b : ℕ) → length (body W b) ≡ 508
 unfolding body
@@ -22,12 +24,10 @@ pub length_block : (W : Week) (b : ℕ) → length (block_of W b) ≡ 512
 unfolding block_of
 length_block W b = length-append (body W b) (list_of (byte_of (fnv (body W b))) 4) ∙ (let h = length_body W b in let k = length_list (byte_of (fnv (body W b))) 4 in omega arith)
 
--- a block under construction: the body is put, its hash is taken, the check is put, and the block is copied
-pub block_put : (W : Week) (b h : ℕ) (t : List ℕ) {l₁ l₂ l₃ : List ℕ} → l₁ ≡ body W b ++ t → h ≡ fnv (take 508 l₁) → l₂ ≡ take 508 l₁ ++ list_of (byte_of h) 4 → l₃ ≡ l₂ → l₃ ≡ block_of W b
+-- a block from its body and the bytes of its check
+pub block_put : (W : Week) (b : ℕ) {h : ℕ} {l c s : List ℕ} → l ≡ body W b → h ≡ fnv l → s ≡ to_le_bytes w32 h → c ≡ s → l ++ c ≡ block_of W b
 unfolding block_of
-block_put W b h t {l₁} e f g k =
-    let m : take 508 l₁ ≡ body W b = ap (take 508) e ∙ take_at (body W b) t 508 (length_body W b) in
-    k ∙ (g ∙ rw (f, m))
+block_put W b {h} e f g k = ap₂ ◌++◌ e (k ∙ (g ∙ (bytes_list h ∙ ap (λ (h : ℕ). list_of (byte_of h) 4) (f ∙ ap fnv e))))
 
 -- A file is filled block by block
 

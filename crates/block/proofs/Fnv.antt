@@ -17,9 +17,13 @@ pub fnv_start : (s : List ℕ) → fnv_from 2166136261 (drop 0 s) ≡ fnv s
 unfolding fnv
 fnv_start s = refl
 
-pub fnv_more : (h : ℕ) (s : List ℕ) (i : ℕ) → i < length s → fnv_from h (drop i s) ≡ fnv_from (fnv_step h (get_or s i 0)) (drop (i + 1) s)
+fnv_more : (h : ℕ) (s : List ℕ) (i : ℕ) → i < length s → fnv_from h (drop i s) ≡ fnv_from (fnv_step h (get_or s i 0)) (drop (i + 1) s)
 unfolding fnv_from
 fnv_more h s i l = rw (add-one, drop-cons s i 0 l)
+
+pub fnv_next : (h : ℕ) {x : ℕ} (s : List ℕ) (i : ℕ) → i < length s → x ≡ bit_xor h (get_or s i 0) → fnv_from h (drop i s) ≡ fnv s → fnv_from (x * 16777619 % 2 ^ 32) (drop (i + 1) s) ≡ fnv s
+unfolding fnv_step
+fnv_next h s i l e f = ap (λ (x : ℕ). fnv_from (x * 16777619 % 2 ^ 32) (drop (i + 1) s)) e ∙ (sym (fnv_more h s i l) ∙ f)
 
 pub fnv_end : {h : ℕ} (s : List ℕ) (i : ℕ) → fnv_from h (drop i s) ≡ fnv s → i ≡ length s → h ≡ fnv s
 unfolding fnv_from

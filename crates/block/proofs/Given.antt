@@ -58,8 +58,8 @@ not_refused F h =
     (goes_on (words_ok (numbers_in F).n (words_in F (numbers_in F).n 0) (words_in F (numbers_in F).n 1) (words_in F (numbers_in F).n 2)) 3 _ h.words
     (goes_off (ties_ok (pair_rules (week_in F))) 4 h.ties)))))))
 
-pub held_limits : (F : List ℕ) {N : Numbers} → file_refusal F ≡ 0 → N ≡ numbers_in F → Limits N
-held_limits F e f = subst⁻¹ Limits f (held F e).limits
+pub held_limits : (F : List ℕ) {N : Numbers} → 0 ≡ file_refusal F → N ≡ numbers_in F → Limits N
+held_limits F e f = subst⁻¹ Limits f (held F (sym e)).limits
 
 -- the week of a file that is not refused is accepted
 pub week_fine : (F : List ℕ) → file_refusal F ≡ 0 → refusal (week_in F) ≡ 0

@@ -1,4 +1,6 @@
 pub mod Parts
+pub mod Bytes
+pub mod Between
 pub mod Fnv
 pub mod Sizes
 pub mod Content

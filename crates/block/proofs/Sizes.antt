@@ -1,7 +1,8 @@
 -- How large a file of at most 24 lots is.
 -- Assumes nothing.
 use mathlib.Core.Path.{◌≡◌}
-use Prim.Native.Nat.{ℕ, ◌+◌, ◌*◌, ◌-◌, ◌≤◌}
+use Prim.Native.Nat.{ℕ, ◌+◌, ◌*◌, ◌-◌, ◌/◌, ◌≤◌}
+use Rattle.std.specs.Int.{div_ceil}
 use native.Mathlib.Nat.{mul-le-mul}
 use native.Mathlib.Omega.{arith}
 use Rattle.block.specs.Content.{content_size}
@@ -33,3 +34,7 @@ blocks_some n = let s = size_some n in omega arith
 pub blocks_hold : (n : ℕ) → content_size n ≤ blocks n * 504
 unfolding blocks
 blocks_hold n = omega arith
+
+-- the content, rounded up to whole blocks
+pub rounded_up : (s : ℕ) → div_ceil s 504 ≡ (s + 503) / 504
+rounded_up s = grind (arith, div_ceil)

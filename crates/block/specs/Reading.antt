@@ -1,13 +1,16 @@
 -- The week that a file holds, which files are refused, and the service read.
 -- Assumes nothing.
-use Rattle.std.specs.Prelude.{Bool, ◌&&◌, cond, List, [], ◌∷◌, ℕ, zero, suc, ◌+◌, ◌*◌, ◌-◌, ◌/◌, ◌%◌, eqb, ltb, leb, length, get_or, take, drop}
+use Rattle.std.specs.Prelude.{Bool, ◌&&◌, cond, Result, Ok, Err, List, [], ◌∷◌, ℕ, zero, suc, ◌+◌, ◌*◌, ◌-◌, ◌/◌, ◌%◌, eqb, ltb, leb, length, get_or, take, drop}
 use Rattle.lex.specs.Every.{all, every}
 use Rattle.lex.specs.Lists.{list_of, padded}
 use Rattle.week.specs.declared.Numbers.{Numbers}
+use Rattle.week.specs.declared.Refusal.{Refusal}
 use Rattle.week.specs.Refusal.{unless, or_else}
 use Rattle.week.specs.Rules.{bit_of, inside, word_of}
 use Rattle.week.specs.Tables.{Week, week, lots, pair_rules, numbers_ok, words_ok, ties_ok}
 use Rattle.pairs.specs.Pairs.{pair_at, low, high, pair_number}
+use Rattle.block.specs.declared.Table.{Table}
+use Rattle.block.specs.declared.Table.TheVariants as T
 use Rattle.block.specs.Fnv.{fnv}
 use Rattle.block.specs.Parts.{byte_of}
 use Rattle.block.specs.Content.{content_size}
@@ -25,6 +28,12 @@ word_in F j = content_in F (6 + 2 * j) + 256 * content_in F (6 + 2 * j + 1)
 
 unfoldable pub numbers_in : List ℕ → Numbers
 numbers_in F = record { n = content_in F 0; a = content_in F 1; b = content_in F 2; alternative = content_in F 3; gap = content_in F 4; helper = content_in F 5 }
+
+-- which table of the file it is
+abbrev pub place : Table → ℕ
+place T.Domain = 0
+place T.Loss = 1
+place T.Give = 2
 
 -- the domain (k = 0), loss (1) and give (2) words of n lots
 unfoldable pub words_at : List ℕ → ℕ → ℕ → ℕ → ℕ
@@ -138,6 +147,11 @@ given k N d l g t = record { answer = k; numbers = N; domain = d; loss = l; give
 
 abbrev pub no_numbers : Numbers
 no_numbers = record { n = 0; a = 0; b = 0; alternative = 0; gap = 0; helper = 0 }
+
+-- the numbers that read gives
+abbrev pub numbers_of : Result Numbers Refusal → Numbers
+numbers_of (Ok N) = N
+numbers_of (Err _) = no_numbers
 
 -- a week in the lent buffers, unused words 0
 unfoldable pub given_week : Week → Given

@@ -14,7 +14,7 @@ use Rattle.lex.specs.Lists.{list_of}
 use Rattle.lex.proofs.Dictionary.{under_all}
 use Rattle.lex.proofs.Lists.{length_list, list_at}
 use Rattle.week.specs.Rules.{Rules, in_domain, together}
-use Rattle.week.proofs.Rules.{Symmetric, domain_below}
+use Rattle.week.proofs.Standing.{Symmetric, domain_below}
 use Rattle.repair.specs.Repair.{Case, is_lost, replaces, helps, may_go, moves}
 use Rattle.parts.specs.Part.{placed}
 use Rattle.cuts.specs.Cut.{whole, mended_on}

@@ -18,7 +18,7 @@ use Rattle.lex.proofs.Every.{both, and_left, and_right, imp_in, imp_out, every_t
 use Rattle.lex.proofs.First.{first_is}
 use Rattle.week.specs.Rules.{Rules, in_domain, together, keeps, beside}
 use Rattle.week.specs.Tables.{Week, lots, pair_rules}
-use Rattle.week.proofs.Rules.{keeps_below, keeps_closed}
+use Rattle.week.proofs.Standing.{keeps_below, keeps_closed}
 use Rattle.robust.specs.Super.{robust, first_super}
 use Rattle.parts.specs.Part.{placed, Extends, Agrees, Full, Empty, Tested, Decides}
 use Rattle.parts.proofs.Outer.{Fixed, fixed_found, fixed_none}

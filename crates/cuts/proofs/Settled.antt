@@ -12,7 +12,7 @@ use Rattle.lex.proofs.Dictionary.{under_all}
 use Rattle.lex.proofs.Every.{both, and_left, and_right, not_both}
 use Rattle.lex.proofs.Lists.{length_list, list_at}
 use Rattle.week.specs.Rules.{Rules, together}
-use Rattle.week.proofs.Rules.{Symmetric, domain_below}
+use Rattle.week.proofs.Standing.{Symmetric, domain_below}
 use Rattle.repair.specs.Repair.{Case, is_lost, moves}
 use Rattle.parts.specs.Part.{placed}
 use Rattle.cuts.specs.Cut.{mended_on}

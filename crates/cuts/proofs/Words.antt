@@ -15,7 +15,7 @@ use borrow.Author.Tests.{eqb-true, eq-eqb, ne_eqb, le-ltb, not-true, not-false}
 use Rattle.lex.specs.Every.{imp, every}
 use Rattle.lex.proofs.Every.{both, and_left, and_right, not_both, same_truth, imp_in, every_true, every_at, every_miss}
 use Rattle.week.specs.Rules.{Rules, bit_of, inside, in_domain, tie_word, together}
-use Rattle.week.proofs.Rules.{Symmetric}
+use Rattle.week.proofs.Standing.{Symmetric}
 use Rattle.week.proofs.Words.{bit_and_lem, bit_zero, inside_and}
 use Rattle.parts.specs.Part.{Empty}
 use Rattle.cuts.specs.Cut.{whole}

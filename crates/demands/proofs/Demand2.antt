@@ -20,7 +20,7 @@ use Rattle.lex.proofs.First.{first_meets}
 use Rattle.week.specs.Refusal.{unless, or_else}
 use Rattle.week.specs.Rules.{keeps}
 use Rattle.week.specs.Tables.{Week, lots, pair_rules, refusal, admits}
-use Rattle.week.proofs.Rules.{keeps_below, keeps_closed}
+use Rattle.week.proofs.Standing.{keeps_below, keeps_closed}
 use Rattle.week.proofs.Tables.{accepted, zero_first, zero_rest, stops_last, goes_off, passed_last, runs_on, admits_tables}
 use Rattle.repair.specs.Break.{lost_ok, row_number, row_count, row_at}
 use Rattle.repair.specs.Repair.{case, mends, is_repair}

@@ -25,7 +25,7 @@ use Rattle.cuts.proofs.Hopes.{supers_long, supers_under, hopes_tested, super_non
 use Rattle.cuts.proofs.Words.{forward_start, lives_word}
 use Rattle.room.specs.Words.{met_word, Made}
 use Rattle.hope.specs.Safe.{Going}
-use Rattle.finish.specs.Search.{Best, Next, Answers, Known}
+use Rattle.finish.specs.Search.{Next, Answers, Known}
 use Rattle.hope.proofs.Blame.{blank}
 use Rattle.finish.proofs.Search.{forward_next}
 
@@ -59,8 +59,8 @@ module _ (W : Week) (fine : refusal W ≡ 0) (words : List ℕ) (made : Made (lo
   }
 
   -- nothing is found
-  pub first_none : (x : ℕ) (o : List ℕ) → Best (lots W) none_placed (lots W) x → Answers W none_placed x 16 false o → first_super W ≡ none
-  first_none x o b f = super_none W none_placed o (blank (lots W) few) (λ u q e. let a = f.1 u q (λ p l h. absurd (let z = f.0 p l h in let y = blank (lots W) few p l in omega arith)) in let d = supers_under W u q x a.0 in let z = a.1 in omega arith)
+  pub first_none : (x : ℕ) (o : List ℕ) → Answers W none_placed x 16 false o → first_super W ≡ none
+  first_none x o f = super_none W none_placed o (blank (lots W) few) (λ u q e. let a = f.1 u q (λ p l h. absurd (let z = f.0 p l h in let y = blank (lots W) few p l in omega arith)) in let d = supers_under W u q x a.0 in let z = a.1 in omega arith)
 
 -- The loop over the lots: those below d are fixed in `order`, known is a super solution that extends it, and `slots` has what is fixed, and 0 beyond
 
@@ -109,13 +109,13 @@ module _ {W : Week} {order words known slots : List ℕ} {d : ℕ} (c : Outer W 
     extends' : Extends (lots W) 16 (set order d v) (take (lots W) r)
     extends' p k g = get_or-take (lots W) r p 0 k ∙ fixed'.extends p k g
 
-    pub outer_step : Made (lots W) (met_word (lots W) W.ties words d v) met → Outer W (set order d v) met r (set slots d v) (d + 1)
+    pub outer_step : (u : ℕ) → u ≡ v → Made (lots W) (met_word (lots W) W.ties words d u) met → (new : List ℕ) → new ≡ set slots d u → Outer W (set order d u) met r new (d + 1)
     unfolding hopes
-    outer_step made = record {
+    outer_step u is made new put = rw (put, is) record {
       going = record {
         fine = c.going.fine;
         size = rw length-set c.going.size;
-        forward = forward_next (outer_next h) least_low made;
+        forward = forward_next (outer_next h) least_low (rw is at made);
         narrow = made.narrow;
         live = and_left (alive (pair_rules W) (set order d v)) (robust_on W (placed 16 (set order d v)) (set order d v)) ((hopes_tested W).must.needed (set order d v) (take (lots W) r) l.has extends');
       };

@@ -2,60 +2,37 @@
 use mathlib.Core.Path.{◌≡◌, refl, sym, ◌∙◌, ap}
 use mathlib.Core.Bool.{true, false, not}
 use mathlib.Core.List.{List}
-use Prim.Native.Nat.{ℕ, ◌+◌, ◌^◌, ◌≤◌, ◌<◌}
+use Prim.Native.Nat.{ℕ, ◌+◌, ◌≤◌, ◌<◌}
 use native.Mathlib.Decide.{dec_lt, ℕ_discrete}
 use native.Mathlib.Omega.{arith}
 use lib.ListN.{length, get_or, set, take, length-set}
 use lib.Seq.{get_or-set_same, get_or-set_other, get_or-take}
-use borrow.Author.Tests.{ltb-true, ne_eqb}
+use borrow.Author.Tests.{ne_eqb}
+use Rattle.std.specs.Prelude.{Option, Some}
 use Rattle.lex.specs.Every.{count}
 use Rattle.lex.proofs.Every.{both, not_both}
 use Rattle.week.specs.Rules.{bit_of}
+use Rattle.week.specs.declared.Lot.{Lot}
 use Rattle.week.specs.Tables.{Week, lots, pair_rules}
-use Rattle.week.proofs.Rules.{Symmetric}
+use Rattle.week.proofs.Standing.{Symmetric}
 use Rattle.week.proofs.Tables.{accepted}
-use Rattle.parts.specs.Part.{placed, unplaced, Extends, Full, Least}
+use Rattle.parts.specs.Part.{placed, unplaced, Extends, Full}
 use Rattle.parts.proofs.Part.{extends_unset, count_place}
 use Rattle.parts.proofs.Reason.{extends_trans, extends_apart, Join, merged_part, merged_more, merged_above}
 use Rattle.cuts.specs.Cut.{robust_on}
 use Rattle.cuts.specs.Hopes.{Forward, lives, hopes, Supers}
-use Rattle.cuts.specs.Reasons.{None, Why}
+use Rattle.cuts.specs.Reasons.{None}
 use Rattle.cuts.proofs.Hopes.{left_order, supers_under, hopes_tested}
 use Rattle.cuts.proofs.Reasons.{left_part, starved_none}
 use Rattle.cuts.proofs.Words.{alive_place, lives_word}
 use Rattle.room.specs.Words.{met_word, Made}
 use Rattle.hope.specs.Blame.{Merged, Bound, Blamed}
 use Rattle.hope.specs.Safe.{Going}
-use Rattle.finish.specs.Search.{Best, Next, Held, Picks, Answers, Known}
+use Rattle.finish.specs.Search.{Best, Chosen, Next, Held, Fed, Starves, Answers, Known}
 use Rattle.finish.proofs.Next.{made_forward, met_left}
-use Rattle.room.proofs.Words.{made_next}
-
-pub placed_low : (s : List ℕ) (q : ℕ) → placed 16 s q ≡ true → 16 ≤ get_or s q 0 → ⊥
-placed_low s q e h = let l = ltb-true (get_or s q 0) 16 e in omega arith
 
 pub low_slot : {v most : ℕ} → v < most → most ≤ 16 → v < 16
 low_slot l h = omega arith
-
--- the words of the q first lots with lot x in slot v, and each that is not placed has a slot
-pub record Fed (W : Week) (s words : List ℕ) (x v q : ℕ) (met : List ℕ) : Type 0 where
-  pub made : Made q (met_word (lots W) W.ties words x v) met
-  pub fed : (p : ℕ) → p < q → 16 ≤ get_or s p 0 → get_or met p 0 ≡ 0 → ⊥
-
-pub fed_start : (W : Week) (s words : List ℕ) (x v : ℕ) (met : List ℕ) → length met ≡ 24 → Fed W s words x v 0 met
-fed_start W s words x v met e = record { made = record { size = e; each = λ p l. absurd (omega arith); narrow = λ p l. absurd (omega arith) }; fed = λ p l. absurd (omega arith) }
-
--- one lot more
-pub fed_next : {W : Week} {s words : List ℕ} {x v q : ℕ} {met : List ℕ} → Fed W s words x v q met → (w : ℕ) → q < 24 → w ≡ met_word (lots W) W.ties words x v q → w < 2 ^ 16 → (16 ≤ get_or s q 0 → w ≡ 0 → ⊥) → Fed W s words x v (q + 1) (set met q w)
-fed_next {W} {s} {words} {x} {v} {q} {met} c w h e g d = record {
-  made = made_next (met_word (lots W) W.ties words x v) met q w h c.made e g;
-  fed = λ p l i z. elim (ℕ_discrete p q) [
-    | yes y ↦ d (rw y at i) (sym (get_or-set_same met q w 0 (omega (arith, c.made.size))) ∙ ap (λ (u : ℕ). get_or (set met q w) u 0) (sym y) ∙ z)
-    | no y ↦ c.fed p (omega arith) i (sym (get_or-set_other met q p w 0 y) ∙ z)
-  ];
-}
-
-pub fed_all : {W : Week} {s words : List ℕ} {x v q n : ℕ} {met : List ℕ} → q ≡ n → Fed W s words x v q met → Fed W s words x v n met
-fed_all e c = rw e at c
 
 module _ {W : Week} {s words : List ℕ} {x : ℕ} (c : Next W s words x) where
   mirror : Symmetric (pair_rules W)
@@ -72,9 +49,6 @@ module _ {W : Week} {s words : List ℕ} {x : ℕ} (c : Next W s words x) where
   -- it has no slots but those of its word
   pub bound_own : (word : ℕ) → word ≡ get_or words x 0 → Bound (pair_rules W) s x word
   bound_own word f = record { few = week_few; mirror = mirror; lot = c.lot; bound = λ v e. ap (λ (y : ℕ). bit_of y v) f ∙ c.going.forward x c.lot v ∙ e }
-
-  pub held_start : (word : ℕ) (r : List ℕ) → word ≡ get_or words x 0 → Blamed (pair_rules W) s x word r → Held W s words x 0 r
-  held_start word r f b = record { size = b.size; part = b.part; bound = λ v e. ap (λ (y : ℕ). bit_of y v) (sym f) ∙ b.bound v e; above = λ t q e. omega arith }
 
   module _ {v : ℕ} {r : List ℕ} (h : Held W s words x v r) where
     -- slot v is not left to it
@@ -109,16 +83,16 @@ module _ {W : Week} {s words : List ℕ} {x : ℕ} (c : Next W s words x) where
   -- slot v is tried
   module _ {v : ℕ} (low : v < 16) where
     -- it leaves no slot to lot q
-    pub starved_bound : (q w : ℕ) → q < lots W → w ≡ met_word (lots W) W.ties words x v q → w ≡ 0 → Bound (pair_rules W) (set s x v) q 0
-    starved_bound q w l e z = record {
+    pub starved_bound : (q : ℕ) → Starves W words x v q → Bound (pair_rules W) (set s x v) q 0
+    starved_bound q d = record {
       few = week_few;
       mirror = mirror;
-      lot = l;
-      bound = λ u i. ap (λ (y : ℕ). bit_of y u) (sym z ∙ e) ∙ met_left (pair_rules W) s words x v mirror inside c.lot c.idle low c.going.forward q l u ∙ i;
+      lot = d.lot;
+      bound = λ u i. ap (λ (y : ℕ). bit_of y u) (sym d.none) ∙ met_left (pair_rules W) s words x v mirror inside c.lot c.idle low c.going.forward q d.lot u ∙ i;
     }
 
-    pub starved_held : {r : List ℕ} (h : Held W s words x v r) (q : ℕ) → q < lots W → (t m : List ℕ) → Blamed (pair_rules W) (set s x v) q 0 t → Merged r t x m → Held W s words x (v + 1) m
-    starved_held h q l t m b g = held_merge h t m b.part (starved_none W t q l b.bound) g
+    pub starved_held : {r : List ℕ} (h : Held W s words x v r) (q : ℕ) → Starves W words x v q → (t m : List ℕ) → Blamed (pair_rules W) (set s x v) q 0 t → Merged r t x m → Held W s words x (v + 1) m
+    starved_held h q d t m b g = held_merge h t m b.part (starved_none W t q d.lot b.bound) g
 
     -- it leaves one to each
     pub fed_going : {met : List ℕ} → bit_of (get_or words x 0) v ≡ true → Fed W s words x v (lots W) met → Going W (set s x v) met
@@ -147,55 +121,42 @@ module _ {W : Week} {s words : List ℕ} {x : ℕ} (c : Next W s words x) where
 
   -- What is answered
 
-  module _ {from slot : ℕ} {why met : List ℕ} (p : Picks W s words x from slot why met) where
-    -- no slot below `most` is left
-    pub answer_none : (most : ℕ) → most ≤ slot → Answers W s x most false why
-    answer_none most h = (p.held.part, λ u q e. (c.lot, let a = p.held.above u q e in omega arith))
-
+  module _ {v : ℕ} {why : List ℕ} (held : Held W s words x v why) where
     -- lot y, or none, is next
-    module _ (low : slot < 16) where
-      pub next_less : count (unplaced 16 (set s x slot)) (lots W) < count (unplaced 16 s) (lots W)
-      next_less = let z = count_place (lots W) 16 s x slot inside c.lot c.idle low in omega arith
-
-      pub answer_next : (y : ℕ) (t : List ℕ) (most : ℕ) → Answers W (set s x slot) y 16 true t → Answers W s x most true t
+    module _ (low : v < 16) where
+      pub answer_next : (y : ℕ) (t : List ℕ) (most : ℕ) → Answers W (set s x v) y 16 true t → Answers W s x most true t
       answer_next y t most a =
-          ((a.0.0, extends_unset (lots W) 16 s x slot c.idle t a.0.1), λ l u q e. let b = p.held.above u q (extends_trans (lots W) 16 why s u p.held.part e) in rw (← there) b)
+          ((a.0.0, extends_unset (lots W) 16 s x v c.idle t a.0.1), λ l u q e. let b = held.above u q (extends_trans (lots W) 16 why s u held.part e) in rw (← there) b)
         where
-          there : slot ≡ get_or t x 0
-          there = let e = get_or-set_same s x slot 0 inside in sym (a.0.1 x c.lot (rw e low) ∙ e)
+          there : v ≡ get_or t x 0
+          there = let e = get_or-set_same s x v 0 inside in sym (a.0.1 x c.lot (rw e low) ∙ e)
 
       -- t is why not
-      module _ (y : ℕ) (t : List ℕ) (a : Answers W (set s x slot) y 16 false t) where
+      module _ (y : ℕ) (t : List ℕ) (a : Answers W (set s x v) y 16 false t) where
         none : None W t
         none u q e = let b = a.1 u q e in let d = supers_under W u q y b.0 in let z = b.1 in omega arith
 
         -- it does not place the lot
         pub answer_jump : (most : ℕ) → 16 ≤ get_or t x 0 → Answers W s x most false t
-        answer_jump most h = (extends_apart (lots W) 16 s t x slot h a.0, λ u q e. absurd (none u q e))
+        answer_jump most h = (extends_apart (lots W) 16 s t x v h a.0, λ u q e. absurd (none u q e))
 
-        pub held_next : (m : List ℕ) → Merged why t x m → Held W s words x (slot + 1) m
-        held_next m g = held_merge p.held t m a.0 none g
+        pub held_next : (m : List ℕ) → Merged why t x m → Held W s words x (v + 1) m
+        held_next m g = held_merge held t m a.0 none g
+
+  -- each call places one lot more
+  pub next_less : (v : ℕ) → v < 16 → (t : List ℕ) → t ≡ set s x v → count (unplaced 16 t) (lots W) < count (unplaced 16 s) (lots W)
+  next_less v low t e = let z = count_place (lots W) 16 s x v inside c.lot c.idle low in rw e (omega arith)
 
   -- a super solution is known already
   module _ {known : List ℕ} (k : Known W s known) where
     pub known_low : get_or known x 0 < 16
     known_low = rw (get_or-take (lots W) known x 0 c.lot) at (supers_under W (take (lots W) known) k.has x c.lot)
 
-    pub known_least : (o : List ℕ) → Answers W s x (get_or known x 0) false o → Least (Supers W) (lots W) 16 s x known
-    known_least o f = record { has = k.has; extends = k.extends; least = λ u q e. (f.1 u q (extends_trans (lots W) 16 o s u f.0 e)).1 }
-
-  pub found_least : (o : List ℕ) (most : ℕ) → Answers W s x most true o → Least (Supers W) (lots W) 16 s x o
-  found_least o most f = record { has = f.0.0; extends = f.0.1; least = f.1 c.lot }
-
   -- it is any that is not placed
   pub best_next : Best (lots W) s (lots W) x
   best_next = record { high = (let l = c.lot in omega arith); idle = λ l. c.idle; full = λ e. absurd (let l = c.lot in omega arith) }
 
 -- Before a lot is taken
-
--- an unsafe order is answered by a part of it
-pub answer_why : {W : Week} {s : List ℕ} (x most : ℕ) (r : List ℕ) → Why W s r → Answers W s x most false r
-answer_why x most r w = (w.part, λ u q e. absurd (w.none u q e))
 
 module _ {W : Week} {s words : List ℕ} (g : Going W s words) {x : ℕ} (b : Best (lots W) s (lots W) x) where
   -- a safe one that places every lot is a super solution
@@ -206,5 +167,6 @@ module _ {W : Week} {s words : List ℕ} (g : Going W s words) {x : ℕ} (b : Be
       full : Full (lots W) 16 s
       full p l = b.full (let z = b.high in omega arith) p l
 
-  pub next_lot : x < lots W → Next W s words x
-  next_lot h = record { going = g; lot = h; idle = b.idle h }
+-- the lot that is chosen is next
+pub next_of : {W : Week} {s words : List ℕ} (o : Option Lot) (x : Lot) → o ≡ Some x → Going W s words → Chosen (lots W) s (lots W) o → Next W s words x.0
+next_of o x e g b = let d = rw e at b in record { going = g; lot = d.0; idle = d.1.idle d.0 }

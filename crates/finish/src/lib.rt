@@ -1,364 +1,264 @@
 // The search for the first super solution. It places the lots in any order, a lot with few slots left first, and goes back as soon as some lot has no
 // slot left or the placed lots tell that they can not be finished; lot by lot its answers give the least slot that a super solution has.
 // A slot over 15 means that a lot is not placed. A forward word has the slots that are left to a lot beside the placed ones.
-// The tally is the search's notebook, and any numbers in it are right: how often each of 24 lots stood in the way, its weight, and behind them how many
-// partial orders were tried.
 #![tactic(auto)]
 
-ghost use Rattle.std.specs.Prelude.{◌≡◌, ◌+◌, ◌≤◌, ◌<◌, length};
-ghost use Rattle.week.specs.Tables.{week, refusal};
-ghost use Rattle.repair.specs.Found.{Holds};
+ghost use Rattle.std.specs.Prelude.{◌≡◌, ◌+◌, ◌≤◌, ◌<◌, true, length, set, MatchResult};
+ghost use Rattle.week.specs.Tables.{lent, refusal};
+ghost use Rattle.repair.specs.Found.{Gives};
 ghost use Rattle.robust.specs.Super.{first_super};
-ghost use Rattle.parts.specs.Part.{Least};
+ghost use Rattle.parts.specs.Part.{placed, Least};
+ghost use Rattle.cuts.specs.Cut.{robust_on};
 ghost use Rattle.cuts.specs.Hopes.{Supers};
-ghost use Rattle.cuts.specs.Reasons.{Exclusive};
+ghost use Rattle.cuts.specs.Reasons.{Exclusive, Why};
 ghost use Rattle.hope.specs.Safe.{Going};
-ghost use Rattle.finish.specs.Search.{Best, Next, Held, Picks, Starts, Finished, Known};
+ghost use Rattle.finish.specs.Search.{lot_or, lot_of, Chosen, Next, Feeds, Finished, Known};
 
-use repair::{Found, Lost};
-use week::{Lot, Numbers, Order, Slot};
+use repair::Lost;
+use room::Partial;
+use week::{Lot, Order, Slot, Week};
 
-// One more in a place of the tally; no number gets over 4294967295.
-fn count_one(tally: &mut [u32], place: u8) {
-    let at = place as usize;
-    if tally.len() <= at {
-        return;
-    }
-    let now = tally[at];
-    if now == 4294967295 {
-        return;
-    }
-    tally[at] = now + 1;
+// The search's notebook, and any numbers in it are right: how often each lot stood in the way, its weight, and how many partial orders were tried. No
+// number gets over 4294967295.
+#[derive(Clone, Copy)]
+pub struct Tally {
+    pub weights: [u32; 24],
+    pub tried: u32,
 }
 
-// A partial order more is tried, in which lot q was left without a slot.
-fn count_starved(tally: &mut [u32], q: Lot) {
-    count_one(tally, 24);
-    count_one(tally, q.0);
+impl Tally {
+    // A fresh one, in which every lot weighs 1.
+    pub fn new() -> Tally
+        ensures { result.tried ≡ 0 }
+    {
+        Tally {
+            weights: [1; 24],
+            tried: 0,
+        }
+    }
+
+    // A partial order more is tried.
+    fn count_try(&mut self) {
+        self.tried = self.tried.saturating_add(1);
+    }
+
+    // A lot stood in the way.
+    fn count_lot(&mut self, q: Lot) {
+        if let Some(weight) = self.weights.get_mut(usize::from(q.0)) {
+            *weight = weight.saturating_add(1);
+        }
+    }
+
+    // A partial order more is tried, in which lot q was left without a slot.
+    fn count_starved(&mut self, q: Lot) {
+        self.count_try();
+        self.count_lot(q);
+    }
+
+    // The lots of a loss stood in the way.
+    fn count_lost(&mut self, lost: Lost) {
+        self.count_lot(lost.0);
+        if lost.0 != lost.1 {
+            self.count_lot(lost.1);
+        }
+    }
+
+    // A lot's weight; 1 for a lot over 23.
+    fn weight_of(&self, q: Lot) -> u32 {
+        self.weights.get(usize::from(q.0)).copied().unwrap_or(1)
+    }
 }
 
-// The lots of a loss stood in the way.
-fn count_lost(tally: &mut [u32], lost: Lost) {
-    let first = lost.0;
-    let last = lost.1;
-    if 24 <= first.0 {
-        return;
-    }
-    count_one(tally, first.0);
-    if first.0 != last.0 {
-        count_one(tally, last.0);
-    }
-}
-
-// A lot's weight; 1 beyond the end.
-fn weight_of(tally: &[u32], q: Lot) -> u32 {
-    let at = q.0 as usize;
-    if at < tally.len() {
-        return tally[at];
-    }
-    1
-}
-
-// A lot, or n for none, how many slots are left to it, and its weight.
+// A lot that may be placed next, how many slots are left to it, and its weight.
 #[derive(Clone, Copy)]
 struct Choice {
-    lot: u8,
+    lot: Lot,
     left: u32,
     weight: u32,
 }
 
+impl Choice {
+    // Whether it has no more slots left per weight than another.
+    fn is_as_good(&self, other: &Choice) -> bool {
+        u64::from(self.left) * u64::from(other.weight)
+            <= u64::from(other.left) * u64::from(self.weight)
+    }
+}
+
 // The better of a choice among the lots before q and of q itself: q, if it is not placed and has fewer slots left per weight.
-fn better(n: u32, order: &[u8], words: &[u16], tally: &[u32], best: Choice, q: Lot) -> Choice
-    requires { (q.0 < n) × Best n order.now q.0 best.lot }
-    ensures { Best n order.now (q.0 + 1) result.lot }
+fn better(at: &Partial<'_>, tally: &Tally, best: Option<Choice>, q: Lot) -> Option<Choice>
+    requires { (q.0 < at.now.week.numbers.n) × Chosen at.now.week.numbers.n at.now.order.now q.0 (lot_of best) }
+    ensures { Chosen at.now.week.numbers.n at.now.order.now (q.0 + 1) (lot_of result) }
 {
-    if room::is_placed(order, q) {
+    if room::is_placed(at.order, q) {
         return best;
     }
-    let left = u32::count_ones(week::word_of(words, q) as u32);
-    let weight = weight_of(tally, q);
-    if n <= best.lot as u32 {
-        return Choice {
-            lot: q.0,
-            left,
-            weight,
-        };
-    }
-    if best.left as u64 * weight as u64 <= left as u64 * best.weight as u64 {
-        return best;
-    }
-    Choice {
-        lot: q.0,
-        left,
-        weight,
-    }
-}
-
-// A lot that is not placed, one with the fewest slots left per weight; n where all are. Any choice is right: this one makes the search short.
-fn choose(n: u32, order: &[u8], words: &[u16], tally: &[u32]) -> Lot
-    requires { n ≤ 24 }
-    ensures { Best n order.now n result.0 }
-{
-    let mut best = Choice {
-        lot: n as u8,
-        left: 0,
-        weight: 0,
+    let here = Choice {
+        lot: q,
+        left: week::word_of(at.words, q).count_ones(),
+        weight: tally.weight_of(q),
     };
-    let mut q: u8 = 0;
-    while (q as u32) < n {
-        best = better(n, order, words, tally, best, Lot(q));
-        q += 1;
+    match best {
+        Some(before) if before.is_as_good(&here) => best,
+        _ => Some(here),
     }
-    Lot(best.lot)
 }
 
-// The first slot of lot x from `from` on that leaves a slot to each lot, 16 or more where there is none. `met` becomes the forward words with the lot there,
-// and `why` what the slots before it fail for.
-fn pick_slot(
-    numbers: Numbers,
-    domain: &[u16],
-    loss: &[u16],
-    give: &[u16],
-    ties: &[u16],
-    order: [u8; 24],
-    words: &[u16],
-    tally: &mut [u32],
-    x: Lot,
-    from: Slot,
-    why: &mut [u8],
-    met: &mut [u16],
-) -> Slot
-    requires { Next (week numbers domain.now loss.now give.now ties.now) order words.now x.0 × Held (week numbers domain.now loss.now give.now ties.now) order words.now x.0 from.0 why.old × (length met.old ≡ 24) }
-    ensures { Picks (week numbers domain.now loss.now give.now ties.now) order words.now x.0 from.0 result.0 why.new met.new }
+// A lot that is not placed, one with the fewest slots left per weight. Any choice is right: this one makes the search short.
+fn choose(at: &Partial<'_>, tally: &Tally) -> Option<Lot>
+    requires { at.now.week.numbers.n ≤ 24 }
+    ensures { Chosen at.now.week.numbers.n at.now.order.now at.now.week.numbers.n result }
 {
-    let own = week::word_of(words, x);
-    let mut v = from.0;
-    let chosen = 'slots: loop {
-        if 16 <= v {
-            break v;
-        }
-        let here = v;
-        v += 1;
-        if !week::bit(own, Slot(here)) {
-            continue 'slots;
-        }
-        let mut q: u8 = 0;
-        while (q as u32) < numbers.n {
-            let lot = Lot(q);
-            let word = room::met_word(numbers.n, ties, words, x, Slot(here), lot);
-            met[q as usize] = word;
-            q += 1;
-            if word != 0 {
-                continue;
-            }
-            if room::is_placed(&order, lot) {
-                continue;
-            }
-            let mut with = order;
-            with[x.0 as usize] = here;
-            let starved = hope::blamed(numbers.n, domain, ties, &with, lot, 0);
-            hope::merge(why, &starved, x);
-            count_starved(tally, lot);
-            continue 'slots;
-        }
-        break here;
-    };
-    Slot(chosen)
+    let mut best = None;
+    for q in 0..at.week.numbers.n as u8 {
+        best = better(at, tally, best, Lot(q));
+    }
+    best.map(|choice| choice.lot)
 }
 
-// A super solution, or a part of an order: why there is none.
+// The first lot that has no slot left once lot x gets slot v. `met` becomes the forward words then, as far as that lot.
+fn first_starved(at: &Partial<'_>, x: Lot, v: Slot, met: &mut [u16; 24]) -> Option<Lot>
+    requires { at.now.week.numbers.n ≤ 24 }
+    ensures { Feeds (lent at.now.week) at.now.order.now at.now.words.now x.0 v.0 result met.new }
+{
+    let rules = at.week.rules();
+    for q in 0..at.week.numbers.n as u8 {
+        let lot = Lot(q);
+        let word = room::met_word(&rules, at.words, x, v, lot);
+        met[usize::from(q)] = word;
+        if word == 0 && !room::is_placed(at.order, lot) {
+            return Some(lot);
+        }
+    }
+    None
+}
+
+// Why there is no super solution: a part of a partial order, a partial order that it extends, which none extends either.
 #[derive(Clone, Copy)]
-struct Tried {
-    is: bool,
-    order: [u8; 24],
+struct Part([u8; 24]);
+
+// A partial order by value.
+fn as_order(order: &[u8]) -> Order
+    requires { length order.now ≡ 24 }
+    ensures { result.slots ≡ order.now }
+{
+    let mut slots = [16u8; 24];
+    slots.copy_from_slice(order);
+    Order { slots }
 }
 
-// One more partial order is judged: why it can not be finished, the order itself where x is no lot, or else why lot x has no slots but those of its word.
-fn start(
-    numbers: Numbers,
-    domain: &[u16],
-    loss: &[u16],
-    give: &[u16],
-    ties: &[u16],
-    order: [u8; 24],
-    words: &[u16],
-    groups: &[u8],
-    tally: &mut [u32],
-    x: Lot,
-) -> Tried
-    requires { Exclusive (week numbers domain.now loss.now give.now ties.now) groups.now × (Going (week numbers domain.now loss.now give.now ties.now) order words.now × Best numbers.n order numbers.n x.0) }
-    ensures { (length result.order ≡ 24) × Starts (week numbers domain.now loss.now give.now ties.now) order words.now x.0 result.is result.order }
+// The same with lot x in slot v.
+fn place(order: &[u8], x: Lot, v: Slot) -> Order
+    requires { length order.now ≡ 24 }
+    ensures { result.slots ≡ set order.now x.0 v.0 }
 {
-    count_one(tally, 24);
-    let judged = hope::judge(numbers, domain, loss, give, ties, order, words, groups);
-    if !judged.is {
-        let lost = judged.lost;
-        let part = judged.why;
-        count_lost(tally, lost);
-        return Tried {
-            is: false,
-            order: part,
-        };
-    }
-    if numbers.n <= x.0 as u32 {
-        return Tried { is: true, order };
-    }
-    let own = hope::blamed(numbers.n, domain, ties, &order, x, week::word_of(words, x));
-    Tried {
-        is: true,
-        order: own,
+    as_order(order).placed(x, v)
+}
+
+// One more partial order is judged: whether it may still be finished, and if not why.
+fn judge(at: &Partial<'_>, tally: &mut Tally) -> Result<(), Part>
+    requires { Exclusive (lent at.now.week) at.now.groups.now × Going (lent at.now.week) at.now.order.now at.now.words.now }
+    ensures { MatchResult result (λ _. robust_on (lent at.now.week) (placed 16 at.now.order.now) at.now.order.now ≡ true) (λ part. (length part.0 ≡ 24) × Why (lent at.now.week) at.now.order.now part.0) }
+{
+    tally.count_try();
+    match hope::judge(at) {
+        Ok(()) => Ok(()),
+        Err(dead) => {
+            if let Some(lost) = dead.lost {
+                tally.count_lost(lost);
+            }
+            Err(Part(dead.why))
+        }
     }
 }
 
 // Of the super solutions that extend a partial order, one with the least slot for lot x, if that is below `most`; else a part of the order that rules
 // them out already. A slot fails for a part; where that does not place x no slot of x can help, and the search goes back to a lot that it places.
-fn finish(
-    numbers: Numbers,
-    domain: &[u16],
-    loss: &[u16],
-    give: &[u16],
-    ties: &[u16],
-    order: [u8; 24],
-    words: &[u16],
-    groups: &[u8],
-    tally: &mut [u32],
-    x: Lot,
-    most: u8,
-) -> Tried
-    requires { Exclusive (week numbers domain.now loss.now give.now ties.now) groups.now × (Going (week numbers domain.now loss.now give.now ties.now) order words.now × (Best numbers.n order numbers.n x.0 × (most ≤ 16))) }
-    ensures { Finished (week numbers domain.now loss.now give.now ties.now) order x.0 most result }
+fn finish(at: &Partial<'_>, tally: &mut Tally, x: Option<Lot>, most: u8) -> Result<Order, Part>
+    requires { Exclusive (lent at.now.week) at.now.groups.now × (Going (lent at.now.week) at.now.order.now at.now.words.now × (Chosen at.now.week.numbers.n at.now.order.now at.now.week.numbers.n x × (most ≤ 16))) }
+    ensures { Finished (lent at.now.week) at.now.order.now (lot_or at.now.week.numbers.n x) most result }
 {
-    let first = start(
-        numbers, domain, loss, give, ties, order, words, groups, tally, x,
-    );
-    if !first.is {
-        return first;
-    }
-    if numbers.n <= x.0 as u32 {
-        return first;
-    }
-    let mut why = first.order;
+    judge(at, tally)?;
+    let Some(x) = x else {
+        return Ok(as_order(at.order));
+    };
+    let rules = at.week.rules();
+    let own = week::word_of(at.words, x);
+    let mut why = hope::blamed(&rules, at.order, x, own);
     let mut met = [0u16; 24];
-    let mut from: u8 = 0;
-    loop {
-        let chosen = pick_slot(
-            numbers,
-            domain,
-            loss,
-            give,
-            ties,
-            order,
-            words,
-            tally,
-            x,
-            Slot(from),
-            &mut why,
-            &mut met,
-        );
-        let v = chosen.0;
-        if most <= v {
-            return Tried {
-                is: false,
-                order: why,
-            };
+    'slots: for v in 0..most {
+        if !week::bit(own, Slot(v)) {
+            continue 'slots;
         }
-        let mut with = order;
-        with[x.0 as usize] = v;
-        let y = choose(numbers.n, &with, &met, tally);
-        let tried = finish(
-            numbers, domain, loss, give, ties, with, &met, groups, tally, y, 16,
-        );
-        if tried.is {
-            return tried;
+        let with = place(at.order, x, Slot(v));
+        if let Some(q) = first_starved(at, x, Slot(v), &mut met) {
+            let part = hope::blamed(&rules, &with.slots, q, 0);
+            hope::merge(&mut why, &part, x);
+            tally.count_starved(q);
+            continue 'slots;
         }
-        if 16 <= tried.order[x.0 as usize] {
-            return tried;
+        let next = Partial {
+            week: at.week,
+            order: &with.slots,
+            words: &met,
+            groups: at.groups,
+        };
+        let y = choose(&next, tally);
+        match finish(&next, tally, y, 16) {
+            Ok(found) => return Ok(found),
+            Err(part) => {
+                if !room::is_placed(&part.0, x) {
+                    return Err(part);
+                }
+                hope::merge(&mut why, &part.0, x);
+            }
         }
-        hope::merge(&mut why, &tried.order, x);
-        from = v + 1;
     }
+    Err(Part(why))
 }
 
 // Of the super solutions that extend a partial order, one with the least slot for lot x; `known` is one of them.
-fn least(
-    numbers: Numbers,
-    domain: &[u16],
-    loss: &[u16],
-    give: &[u16],
-    ties: &[u16],
-    order: [u8; 24],
-    words: &[u16],
-    groups: &[u8],
-    tally: &mut [u32],
-    x: Lot,
-    known: [u8; 24],
-) -> Order
-    requires { Exclusive (week numbers domain.now loss.now give.now ties.now) groups.now × (Next (week numbers domain.now loss.now give.now ties.now) order words.now x.0 × Known (week numbers domain.now loss.now give.now ties.now) order known) }
-    ensures { (length result.slots ≡ 24) × Least (Supers (week numbers domain.now loss.now give.now ties.now)) numbers.n 16 order x.0 result.slots }
+fn least(at: &Partial<'_>, tally: &mut Tally, x: Lot, known: Order) -> Order
+    requires { Exclusive (lent at.now.week) at.now.groups.now × (Next (lent at.now.week) at.now.order.now at.now.words.now x.0 × Known (lent at.now.week) at.now.order.now known.slots) }
+    ensures { (length result.slots ≡ 24) × Least (Supers (lent at.now.week)) at.now.week.numbers.n 16 at.now.order.now x.0 result.slots }
 {
-    let most = known[x.0 as usize];
-    let tried = finish(
-        numbers, domain, loss, give, ties, order, words, groups, tally, x, most,
-    );
-    if tried.is {
-        let found = tried.order;
-        return Order { slots: found };
-    }
-    Order { slots: known }
+    let most = known.slot_of(x).0;
+    finish(at, tally, Some(x), most).unwrap_or(known)
 }
 
 // The first super solution: lot by lot the least slot with which the rest can be finished. Inner layers share it: they have judged the tables.
-pub fn find_super(
-    numbers: Numbers,
-    domain: &[u16],
-    loss: &[u16],
-    give: &[u16],
-    ties: &[u16],
-    tally: &mut [u32],
-) -> Found
-    requires { refusal (week numbers domain.now loss.now give.now ties.now) ≡ 0 }
-    ensures { Holds (first_super (week numbers domain.now loss.now give.now ties.now)) result }
+pub fn find_super(week: &Week<'_>, tally: &mut Tally) -> Option<Order>
+    requires { refusal (lent week.now) ≡ 0 }
+    ensures { Gives (first_super (lent week.now)) result }
 {
-    let mut words = room::first_words(numbers.n, domain);
+    let rules = week.rules();
+    let groups = room::groups(&rules);
+    let mut words = room::first_words(&rules);
     let mut order = [16u8; 24];
-    let groups = room::groups(numbers.n, ties);
-    let x = choose(numbers.n, &order, &words, tally);
-    let tried = finish(
-        numbers, domain, loss, give, ties, order, &words, &groups, tally, x, 16,
-    );
-    if !tried.is {
-        return Found {
-            is: false,
-            order: Order { slots: [0; 24] },
+    let start = Partial {
+        week: *week,
+        order: &order,
+        words: &words,
+        groups: &groups,
+    };
+    let x = choose(&start, tally);
+    let Ok(mut known) = finish(&start, tally, x, 16) else {
+        return None;
+    };
+    let mut first = Order::empty();
+    for d in 0..week.numbers.n as u8 {
+        let lot = Lot(d);
+        let at = Partial {
+            week: *week,
+            order: &order,
+            words: &words,
+            groups: &groups,
         };
+        known = least(&at, tally, lot, known);
+        let v = known.slot_of(lot);
+        words = room::met_words(&rules, &words, lot, v);
+        order[usize::from(d)] = v.0;
+        first = first.placed(lot, v);
     }
-    let found = tried.order;
-    let mut known = Order { slots: found };
-    let mut slots = [0u8; 24];
-    let mut d: u8 = 0;
-    while (d as u32) < numbers.n {
-        let at = d as usize;
-        known = least(
-            numbers,
-            domain,
-            loss,
-            give,
-            ties,
-            order,
-            &words,
-            &groups,
-            tally,
-            Lot(d),
-            known.slots,
-        );
-        let v = known.slots[at];
-        words = room::met_words(numbers.n, ties, &words, Lot(d), Slot(v));
-        order[at] = v;
-        slots[at] = v;
-        d += 1;
-    }
-    Found {
-        is: true,
-        order: Order { slots },
-    }
+    Some(first)
 }

@@ -1,25 +1,29 @@
 -- Reasons as the code makes them: parts of an order, merged, cut down to some lots, or made of the lots that take slots from one lot. A law for each turn of a
 -- loop. Assumes nothing.
 use mathlib.Core.Path.{◌≡◌, refl, sym, ◌∙◌, ap}
-use mathlib.Core.Bool.{Bool, true, false, not}
+use mathlib.Core.Bool.{Bool, true, false, ◌&&◌, not}
 use mathlib.Core.List.{List}
-use Prim.Native.Nat.{ℕ, ◌+◌, ◌≤◌, ◌<◌}
+use Prim.Native.Nat.{ℕ, zero, suc, ◌+◌, ◌-◌, ◌/◌, ◌%◌, ◌^◌, ◌≤◌, ◌<◌}
 use native.Mathlib.Decide.{dec_lt, ℕ_discrete}
 use native.Mathlib.Omega.{arith}
-use lib.Bits.{bit_and, bit_xor}
+use lib.Bits.{bit_and}
+use lib.Dec.{eqb}
 use lib.ListN.{length, get_or, set, replicate, length-set, get_or-replicate}
 use lib.Seq.{get_or-set_same, get_or-set_other}
-use borrow.Author.Tests.{not-true}
-use Rattle.lex.proofs.Every.{both, and_left, and_right, not_both}
+use borrow.Author.Tests.{not-true, lt-ltb}
+use Rattle.std.proofs.Common.{w16}
+use Rattle.std.specs.Int.{bit_not}
+use Rattle.std.proofs.lemmas.Nat.Bits.{bit_at_not}
+use Rattle.lex.proofs.Every.{false_of, both, and_left, and_right, not_both}
 use Rattle.week.specs.Rules.{Rules, bit_of, inside, in_domain, tie_word, together}
-use Rattle.week.proofs.Rules.{domain_below}
-use Rattle.week.proofs.Words.{bit_and_lem, bit_without, bit_zero, bit_below, inside_at}
+use Rattle.week.proofs.Standing.{domain_below}
+use Rattle.week.proofs.Words.{bit_and_lem, bit_zero, bit_below, inside_at}
 use Rattle.parts.specs.Part.{Extends, Empty, Merges}
 use Rattle.cuts.specs.Cut.{whole}
 use Rattle.cuts.specs.Hopes.{suits_on, is_left}
 use Rattle.cuts.proofs.Hopes.{suits_self, suits_free, suits_with, suits_make, suits_read, left_domain, left_suits}
 use Rattle.cuts.proofs.Reasons.{left_part}
-use Rattle.hope.specs.Blame.{Part, Merged, Bound, Blamed}
+use Rattle.hope.specs.Blame.{Bound, Blamed}
 
 -- no lot is placed
 blank_idle : (p : ℕ) → p < 24 → 16 ≤ get_or (replicate 24 16) p 0
@@ -36,66 +40,6 @@ pub record Merging (a b : List ℕ) (x k : ℕ) (r : List ℕ) : Type 0 where
   pub done : Merges k 16 a b x r
   pub rest : (p : ℕ) → k ≤ p → get_or r p 0 ≡ get_or a p 0
 
-pub merging_start : (a b : List ℕ) (x : ℕ) → length a ≡ 24 → Merging a b x 0 a
-merging_start a b x e = record { size = e; done = record { own = λ p l. absurd (omega arith); other = λ p l. absurd (omega arith); self = λ l. absurd (omega arith) }; rest = λ p l. refl }
-
-module _ {a b : List ℕ} {x k : ℕ} {r : List ℕ} (m : Merging a b x k r) where
-  -- lot k is one of a, or x
-  pub merging_keep : (16 ≤ get_or r k 0 → k ≡ x) → Merging a b x (k + 1) r
-  merging_keep h = record {
-    size = m.size;
-    done = record {
-      own = λ p l g. elim (dec_lt p k) [
-        | yes i ↦ m.done.own p i g
-        | no i ↦ m.rest p (omega arith)
-      ];
-      other = λ p l g d. elim (dec_lt p k) [
-        | yes i ↦ m.done.other p i g d
-        | no i ↦ let e : p ≡ k = omega arith in absurd (d (e ∙ h (rw (m.rest k (omega arith), ← e) g)))
-      ];
-      self = λ l g. elim (dec_lt x k) [
-        | yes i ↦ m.done.self i g
-        | no i ↦ rw (m.rest x (omega arith)) g
-      ];
-    };
-    rest = λ p l. m.rest p (omega arith);
-  }
-
-  -- b may place it
-  pub merging_take : (v : ℕ) → k < 24 → v ≡ get_or b k 0 → 16 ≤ get_or r k 0 → (k ≡ x → ⊥) → Merging a b x (k + 1) (set r k v)
-  merging_take v l f g d = record {
-    size = rw length-set m.size;
-    done = record {
-      own = λ p i h. elim (ℕ_discrete p k) [
-        | yes e ↦ absurd (let z = m.rest k (omega arith) in let y = ap (λ (q : ℕ). get_or a q 0) e in omega arith)
-        | no e ↦ get_or-set_other r k p v 0 e ∙ m.done.own p (omega arith) h
-      ];
-      other = λ p i h c. elim (ℕ_discrete p k) [
-        | yes e ↦ rw e (get_or-set_same r k v 0 (omega (arith, m.size)) ∙ f)
-        | no e ↦ get_or-set_other r k p v 0 e ∙ m.done.other p (omega arith) h c
-      ];
-      self = λ i h. rw (get_or-set_other r k x v 0 (λ e. d (sym e))) (m.done.self (elim (ℕ_discrete x k) [ yes e ↦ absurd (d (sym e)) | no e ↦ omega arith ]) h);
-    };
-    rest = λ p i. get_or-set_other r k p v 0 (λ e. omega arith) ∙ m.rest p (omega arith);
-  }
-
-  pub merging_end : k ≡ 24 → Merged a b x r
-  merging_end e = record { size = m.size; merges = rw e at m.done }
-
--- An order cut down to some lots
-
-pub part_start : (s : List ℕ) → Part 24 s (replicate 24 16)
-part_start s = record { size = refl; part = λ p l h. absurd (let a = blank_idle p l in omega arith) }
-
-pub part_take : {s r : List ℕ} (k v : ℕ) → k < 24 → v ≡ get_or s k 0 → Part 24 s r → Part 24 s (set r k v)
-part_take {s} {r} k v l f m = record {
-  size = rw length-set m.size;
-  part = λ p i h. elim (ℕ_discrete p k) [
-    | yes e ↦ rw e (sym (get_or-set_same r k v 0 (omega (arith, m.size)) ∙ f))
-    | no e ↦ let o = get_or-set_other r k p v 0 e in m.part p i (rw o at h) ∙ sym o
-  ];
-}
-
 -- The lots that take slots from lot q
 
 -- of the k first lots of s those in r do; `rest` has the slots outside `target` that these k lots leave to q
@@ -108,15 +52,33 @@ pub record Blaming (R : Rules) (s : List ℕ) (q target k : ℕ) (r : List ℕ) 
   pub inner : (v : ℕ) → bit_of rest v ≡ true → (bit_of target v ≡ false) × (in_domain R q v ≡ true)
   pub passed : (v : ℕ) → bit_of rest v ≡ true → (p : ℕ) → p < k → (p ≡ q → ⊥) → get_or s p 0 < 16 → together R q v p (get_or s p 0) ≡ true
 
-pub blaming_start : (R : Rules) (s : List ℕ) (q target own : ℕ) → Bound R s q target → own ≡ get_or R.domain q 0 → Blaming R s q target 0 (replicate 24 16) (bit_xor own (bit_and own target))
+-- the slots of a word but those of another
+digit_not : (d : ℕ) → d < 2 → eqb (1 - d) 1 ≡ not (eqb d 1)
+digit_not zero l = refl
+digit_not (suc zero) l = refl
+digit_not (suc (suc d)) l = absurd (omega arith)
+
+bit_outside : (y v : ℕ) → y < 65536 → v < 16 → bit_of (bit_not w16 y) v ≡ not (bit_of y v)
+unfolding bit_of
+bit_outside y v h l = rw (lt-ltb v 16 l, bit_at_not w16 y v h l) (digit_not (y / 2 ^ v % 2) (omega arith))
+
+bit_but : (x y v : ℕ) → y < 65536 → bit_of (bit_and x (bit_not w16 y)) v ≡ (bit_of x v && not (bit_of y v))
+bit_but x y v h =
+    bit_and_lem x (bit_not w16 y) v
+    ∙ elim (dec_lt v 16) [
+      | yes l ↦ ap (λ (b : Bool). bit_of x v && b) (bit_outside y v h l)
+      | no l ↦ let z : bit_of x v ≡ false = false_of (bit_of x v) (λ e. omega (arith, bit_below x v e)) in rw z refl
+    ]
+
+pub blaming_start : (R : Rules) (s : List ℕ) (q target own : ℕ) → Bound R s q target → own ≡ get_or R.domain q 0 → target < 65536 → Blaming R s q target 0 (replicate 24 16) (bit_and own (bit_not w16 target))
 unfolding in_domain
-blaming_start R s q target own b e = record {
+blaming_start R s q target own b e l = record {
   given = b;
   size = refl;
   part = λ p l h. absurd (let a = blank R.lots b.few p l in omega arith);
   later = λ p h l. blank_idle p l;
-  outer = λ v f g. bit_without own target v ∙ both (ap (λ (x : ℕ). bit_of x v) e ∙ left_domain R (replicate 24 16) q v f) (ap not g);
-  inner = λ v f. let h = sym (bit_without own target v) ∙ f in (not-true (bit_of target v) (and_right (bit_of own v) (not (bit_of target v)) h), ap (λ (x : ℕ). bit_of x v) (sym e) ∙ and_left (bit_of own v) (not (bit_of target v)) h);
+  outer = λ v f g. bit_but own target v l ∙ both (ap (λ (x : ℕ). bit_of x v) e ∙ left_domain R (replicate 24 16) q v f) (ap not g);
+  inner = λ v f. let h = sym (bit_but own target v l) ∙ f in (not-true (bit_of target v) (and_right (bit_of own v) (not (bit_of target v)) h), ap (λ (x : ℕ). bit_of x v) (sym e) ∙ and_left (bit_of own v) (not (bit_of target v)) h);
   passed = λ v f p l. absurd (omega arith);
 }
 
@@ -160,12 +122,6 @@ module _ {R : Rules} {s : List ℕ} {q target k : ℕ} {r : List ℕ} {rest : �
       | no i ↦ let e : p ≡ k = omega arith in rw e (h v f (λ z. d (e ∙ z)) (rw e at g))
     ];
   }
-
-  pub blaming_free : 16 ≤ get_or s k 0 → Blaming R s q target (k + 1) r rest
-  blaming_free h = blaming_past (λ v f d g. absurd (omega arith))
-
-  pub blaming_self : k ≡ q → Blaming R s q target (k + 1) r rest
-  blaming_self e = blaming_past (λ v f d g. absurd (d e))
 
   module _ (slot tie : ℕ) (is : slot ≡ get_or s k 0) (word : tie ≡ tie_word R.lots R.ties k slot q) (low : slot < 16) (lot : k < R.lots) where
     tie_beside : (v : ℕ) → bit_of tie v ≡ together R k slot q v

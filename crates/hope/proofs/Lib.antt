@@ -1,3 +1,4 @@
 pub mod Blame
 pub mod Own
+pub mod Ranges
 pub mod Safe

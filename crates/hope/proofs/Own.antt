@@ -3,10 +3,9 @@ use mathlib.Core.Path.{◌≡◌, refl, sym, ◌∙◌}
 use mathlib.Core.Bool.{Bool, true, false}
 use mathlib.Core.List.{List}
 use Prim.Native.Nat.{ℕ, ◌+◌, ◌≤◌, ◌<◌}
-use native.Mathlib.Decide.{dec_lt, ℕ_discrete}
+use native.Mathlib.Decide.{dec_lt}
 use native.Mathlib.Omega.{arith}
-use lib.ListN.{get_or, set, replicate, length-set}
-use lib.Seq.{get_or-set_same, get_or-set_other}
+use lib.ListN.{get_or}
 use borrow.Author.Tests.{le-leb, lt-leb}
 use Rattle.week.specs.Rules.{together}
 use Rattle.week.specs.Tables.{Week, lots, pair_rules}
@@ -15,15 +14,15 @@ use Rattle.cuts.specs.Reasons.{Exclusive}
 use Rattle.hope.specs.Blame.{own_group, OwnGroups}
 
 module _ (s groups : List ℕ) (p : ℕ) where
-  pub own_placed : placed 16 s p ≡ true → 24 + p ≡ own_group s groups p
+  own_placed : placed 16 s p ≡ true → 24 + p ≡ own_group s groups p
   unfolding own_group
   own_placed e = rw e
 
-  pub own_over : placed 16 s p ≡ false → 24 ≤ get_or groups p 0 → 24 + p ≡ own_group s groups p
+  own_over : placed 16 s p ≡ false → 24 ≤ get_or groups p 0 → 24 + p ≡ own_group s groups p
   unfolding own_group
   own_over e h = rw (e, le-leb 24 (get_or groups p 0) h)
 
-  pub own_waits : placed 16 s p ≡ false → get_or groups p 0 < 24 → get_or groups p 0 ≡ own_group s groups p
+  own_waits : placed 16 s p ≡ false → get_or groups p 0 < 24 → get_or groups p 0 ≡ own_group s groups p
   unfolding own_group
   own_waits e h = rw (e, lt-leb 24 (get_or groups p 0) h)
 
@@ -38,21 +37,6 @@ module _ (s groups : List ℕ) (p : ℕ) where
       go : (b : Bool) → placed 16 s p ≡ b → Own
       go true e = alone (sym (own_placed e))
       go false e = elim (dec_lt (get_or groups p 0) 24) [ yes h ↦ among (sym (own_waits e h)) h | no h ↦ alone (sym (own_over e (omega arith))) ]
-
-pub own_start : (s groups : List ℕ) → OwnGroups s groups 0 (replicate 24 0)
-own_start s groups = record { size = refl; each = λ p l. absurd (omega arith) }
-
-pub own_next : {s groups : List ℕ} {k : ℕ} {own : List ℕ} → OwnGroups s groups k own → (g : ℕ) → k < 24 → g ≡ own_group s groups k → OwnGroups s groups (k + 1) (set own k g)
-own_next {s} {groups} {k} {own} c g l e = record {
-  size = rw length-set c.size;
-  each = λ p i. elim (ℕ_discrete p k) [
-    | yes z ↦ rw z (get_or-set_same own k g 0 (omega (arith, c.size)) ∙ e)
-    | no z ↦ get_or-set_other own k p g 0 z ∙ c.each p (omega arith)
-  ];
-}
-
-pub own_all : {s groups : List ℕ} {k n : ℕ} {own : List ℕ} → k ≡ n → OwnGroups s groups k own → OwnGroups s groups n own
-own_all e c = rw e at c
 
 pub own_exclusive : (W : Week) (s groups own : List ℕ) → Exclusive W groups → OwnGroups s groups (lots W) own → Exclusive W own
 own_exclusive W s groups own x c p q v l m e = go (own_is s groups p) (own_is s groups q)

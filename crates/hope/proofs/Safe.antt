@@ -9,11 +9,13 @@ use native.Mathlib.Decide.{dec_lt, ℕ_discrete}
 use native.Mathlib.Omega.{arith}
 use lib.Bits.{bit_and, bit_or, and_lt}
 use lib.Dec.{eqb, ltb, leb}
-use lib.ListN.{get_or, set, replicate, length-set}
+use lib.ListN.{get_or, set, length-set}
 use lib.Seq.{get_or-set_same, get_or-set_other}
+use Rattle.std.proofs.lemmas.Nat.{and_le_r}
 use borrow.Author.Tests.{ltb-true, lt-ltb, leb-true, le-leb, eqb-true, eqb-false, ne_eqb, not-true}
 use Rattle.lex.specs.Every.{imp, every, every_of, some_of}
 use Rattle.lex.proofs.Every.{both, and_left, and_right, not_both, imp_in, imp_out, every_at}
+use Rattle.std.specs.Prelude.{Result, Ok, Err, MatchResult}
 use Rattle.week.specs.declared.Numbers.{Numbers}
 use Rattle.week.specs.Rules.{bit_of, tie_word, together}
 use Rattle.week.specs.Tables.{Week, lots, pair_rules}
@@ -29,11 +31,16 @@ use Rattle.robust.proofs.Super.{single_make, pair_make, sets_make}
 use Rattle.parts.specs.Part.{placed}
 use Rattle.cuts.specs.Cut.{mended_on, safe_on, robust_on}
 use Rattle.cuts.specs.Hopes.{is_left}
-use Rattle.cuts.specs.Reasons.{None, Why, asked, Struck}
+use Rattle.cuts.specs.Reasons.{None, Why, asked, Struck, Exclusive}
 use Rattle.cuts.proofs.Free.{free_mended}
 use Rattle.cuts.proofs.Reasons.{safe_whole, safe_repaired, alive_part}
 use Rattle.cuts.proofs.Words.{word_some}
-use Rattle.hope.specs.Blame.{Part, Merged, Bound, Blamed}
+use Rattle.room.specs.Words.{met_by, Made}
+use Rattle.room.proofs.Words.{words_forward}
+use Rattle.mend.specs.Mend.{Roomed}
+use Rattle.hope.specs.declared.Unmended.{Unmended}
+use Rattle.hope.specs.Blame.{Part, Merged, Bound, Blamed, OwnGroups}
+use Rattle.hope.proofs.Own.{own_exclusive}
 use Rattle.hope.specs.Safe.{leaves, Frees, Freed, Paired, risks, SafeSingles, SafePartners, SafePairs, Verdict, Going, Judging}
 
 -- a part of the order that has the break
@@ -43,9 +50,6 @@ struck_part W s r A c m e = record { fine = c.fine; live = alive_part (pair_rule
 -- and no repair for it, or all of the order
 pub why_part : (W : Week) (s r : List ℕ) → Part (lots W) s r → None W r → Why W s r
 why_part W s r m f = record { part = m.part; none = f }
-
-pub why_whole : (W : Week) (s : List ℕ) → None W s → Why W s s
-why_whole W s f = record { part = λ p l h. refl; none = f }
 
 -- Free slots
 
@@ -74,9 +78,9 @@ module _ (N : Numbers) (w : ℕ) where
   frees_none v e = absurd (not_both e (bit_zero v))
 
   -- beyond the gap
-  pub frees_gap : w + N.gap + 1 < 16 → Frees N w (65535 * 2 ^ (w + N.gap + 1) % 65536)
-  frees_gap l v e =
-      let h = leb-true (w + N.gap + 1) v (in_table (λ k. 65535 * 2 ^ k % 65536) leb from_table (w + N.gap + 1) v l e) in
+  pub frees_gap : (k : ℕ) → k ≡ w + N.gap + 1 → k < 16 → Frees N w (65535 * 2 ^ k % 65536)
+  frees_gap k is l v e =
+      let h = leb-true k v (in_table (λ k. 65535 * 2 ^ k % 65536) leb from_table k v l e) in
       leaves_make N w v (λ z. omega arith) (λ z. omega arith) (λ z. omega arith)
 
   module _ (free : N.alternative ≡ 1 → ⊥) (low : w < 16) where
@@ -90,10 +94,7 @@ module _ (N : Numbers) (w : ℕ) where
         let h = not-true (eqb w v) (in_table (λ k. 65535 - 1 * 2 ^ k % 65536) (λ k v. not (eqb k v)) but_table w v low e) in
         leaves_make N w v (λ z. absurd (d (eqb-true N.helper 1 z))) (eqb-false w v h) (λ z. absurd (free (eqb-true N.alternative 1 z)))
 
--- the words of the k first lots are made, and that of one lot more
-pub freed_start : (N : Numbers) (s words : List ℕ) → Freed N s words 0 (replicate 24 0)
-freed_start N s words = record { size = refl; left = λ p l. absurd (omega arith); goes = λ p l. absurd (omega arith); narrow = λ p l. absurd (omega arith) }
-
+-- the word of one lot more is made
 module _ {N : Numbers} {s words : List ℕ} {k : ℕ} {free : List ℕ} (c : Freed N s words k free) (own word slot : ℕ) (l : k < 24) (is : own ≡ get_or words k 0) (at : slot ≡ get_or s k 0) (f : Frees N slot word) (a : own < 2 ^ 16) (b : word < 2 ^ 16) where
   abbrev new : List ℕ
   new = set free k (bit_and own word)
@@ -118,15 +119,39 @@ module _ {N : Numbers} {s words : List ℕ} {k : ℕ} {free : List ℕ} (c : Fre
     ];
   }
 
-pub freed_all : (N : Numbers) (s words : List ℕ) {k n : ℕ} {free : List ℕ} → k ≡ n → Freed N s words k free → Freed N s words n free
-freed_all N s words e c = rw e at c
-
 -- two words with slots that may stand together
-pub paired : (n : ℕ) (ties : List ℕ) (x first y last v tie : ℕ) → bit_of first v ≡ true → tie ≡ tie_word n ties x v y → tie < 2 ^ 16 → last < 2 ^ 16 → (bit_and tie last ≡ 0 → ⊥) → Paired n ties x first y last
-paired n ties x first y last v tie e f a b d =
-    let m = word_some (bit_and tie last) (and_lt 16 tie last a b) d in
+pub paired : (n : ℕ) (ties : List ℕ) (x first y last v tie : ℕ) → bit_of first v ≡ true → tie ≡ tie_word n ties x v y → last < 2 ^ 16 → (bit_and tie last ≡ 0 → ⊥) → Paired n ties x first y last
+paired n ties x first y last v tie e f b d =
+    let m = word_some (bit_and tie last) (omega (arith, and_le_r tie last)) d in
     let g = sym (bit_and_lem tie last m.0) ∙ m.1 in
     record { v = v; w = m.0; one = e; other = and_right (bit_of tie m.0) (bit_of last m.0) g; beside = rw (← f) (and_left (bit_of tie m.0) (bit_of last m.0) g) }
+
+-- Verdicts
+
+-- what is asked of a loss answers what is asked of the lots
+pub verdict_by : (W : Week) (s : List ℕ) {A B : Type 0} (r : Result Unit Unmended) → (A → B) → Verdict W s A r → Verdict W s B r
+verdict_by W s (Ok u) f h = f h
+verdict_by W s (Err e) f h = h
+
+-- a loop over the lots at risk from the first one on: of each it knows P, or N of the one where it stops
+abbrev pub Looked : Week → List ℕ → ℕ → (ℕ → Type 0) → (ℕ → Unmended → Type 0) → Result Unit Unmended → Type 0
+Looked W s first P N r =
+    MatchResult r (λ _. (p : ℕ) → first ≤ p → (p < lots W) × (risks W.loss s p ≡ true) → P p) (λ e. (p : ℕ) × N p e)
+
+-- where it stops is a break without a repair
+abbrev pub Dooms : Week → List ℕ → (ℕ → Unmended → Type 0) → Type 0
+Dooms W s N = (p : ℕ) (e : Unmended) → N p e → Struck W s (lots_of e.lost) × None W s
+
+-- the lots at risk are safe, and so is any other
+module _ (W : Week) (s : List ℕ) (first : ℕ) (B : ℕ → Type 0) (calm : (p : ℕ) → risks W.loss s p ≡ false → B p) {P : ℕ → Type 0} {N : ℕ → Unmended → Type 0}
+    (f : (p : ℕ) → P p → B p) (g : Dooms W s N) where
+  verdict_each : (r : Result Unit Unmended) → Looked W s first P N r → Verdict W s ((p : ℕ) → first ≤ p → p < lots W → B p) r
+  verdict_each (Ok u) h = λ p l m. go p l m (risks W.loss s p) refl
+    where
+      go : (p : ℕ) → first ≤ p → p < lots W → (b : Bool) → risks W.loss s p ≡ b → B p
+      go p l m true e = f p (h p l (m, e))
+      go p l m false e = calm p e
+  verdict_each (Err e) h = g h.0 e h.1
 
 -- Losses of placed lots
 
@@ -209,7 +234,7 @@ module _ {W : Week} {s words free : List ℕ} (c : Judging W s words free) where
   two_calm p q e = safe_whole W s (pair p q) (risk_two W.loss s p q ∙ ap (λ (b : Bool). risks W.loss s p && b) e ∙ and-false (risks W.loss s p))
 
   -- lot p is not at risk
-  pub partners_calm : (p : ℕ) → risks W.loss s p ≡ false → SafePartners W s p (lots W)
+  pub partners_calm : (p : ℕ) → risks W.loss s p ≡ false → SafePartners W s p
   partners_calm p e q g l = safe_whole W s (pair p q) (risk_two W.loss s p q ∙ ap (λ (b : Bool). b && risks W.loss s q) e)
 
   pub two_free : (p q : ℕ) → p < lots W → q < lots W → risks W.loss s p ≡ true → risks W.loss s q ≡ true → (a b : ℕ) → a ≡ get_or free p 0 → b ≡ get_or free q 0 → Paired (lots W) W.ties p a q b → safe_for (pair p q)
@@ -230,23 +255,25 @@ module _ {W : Week} {s words free : List ℕ} (c : Judging W s words free) where
         beside = λ z. m.beside;
       }))
 
-  -- one loss more
+  module _ {P : ℕ → Type 0} {N : ℕ → Unmended → Type 0} where
+    pub singles_verdict : (r : Result Unit Unmended) → Looked W s 0 P N r → ((p : ℕ) → P p → safe_for (single p)) → Dooms W s N → Verdict W s (SafeSingles W s) r
+    singles_verdict r h f g =
+        verdict_by W s {B = SafeSingles W s} r (λ k p l. k p (omega arith) l) (verdict_each W s 0 (λ p. safe_for (single p)) one_calm f g r h)
 
-  pub singles_next : (k : ℕ) → SafeSingles W s k → safe_for (single k) → SafeSingles W s (k + 1)
-  singles_next k f e p l = elim (dec_lt p k) [ yes h ↦ f p h | no h ↦ let z : p ≡ k = omega arith in rw z e ]
+    pub partners_verdict : (x : ℕ) (r : Result Unit Unmended) → Looked W s (x + 1) P N r → ((p : ℕ) → P p → safe_for (pair x p)) → Dooms W s N → Verdict W s (SafePartners W s x) r
+    partners_verdict x r h f g =
+        verdict_by W s {B = SafePartners W s x} r (λ k q l m. k q (omega arith) m) (verdict_each W s (x + 1) (λ q. safe_for (pair x q)) (two_calm x) f g r h)
 
-  pub partners_next : (x k : ℕ) → SafePartners W s x k → safe_for (pair x k) → SafePartners W s x (k + 1)
-  partners_next x k f e q g l = elim (dec_lt q k) [ yes h ↦ f q g h | no h ↦ let z : q ≡ k = omega arith in rw z e ]
-
-  pub pairs_next : (k : ℕ) → SafePairs W s k → SafePartners W s k (lots W) → SafePairs W s (k + 1)
-  pairs_next k f e p l = elim (dec_lt p k) [ yes h ↦ f p h | no h ↦ let z : p ≡ k = omega arith in rw z e ]
+    pub pairs_verdict : (r : Result Unit Unmended) → Looked W s 0 P N r → ((p : ℕ) → P p → SafePartners W s p) → Dooms W s N → Verdict W s (SafePairs W s) r
+    pairs_verdict r h f g =
+        verdict_by W s {B = SafePairs W s} r (λ k p l. k p (omega arith) l) (verdict_each W s 0 (SafePartners W s) partners_calm f g r h)
 
 -- every loss is judged
 module _ {W : Week} {s words : List ℕ} (g : Going W s words) where
   abbrev Robust : Type 0
   Robust = robust_on W (placed 16 s) s ≡ true
 
-  robust_all : (0 < W.numbers.a → SafeSingles W s (lots W)) → (1 < W.numbers.a → SafePairs W s (lots W)) → Robust
+  robust_all : (0 < W.numbers.a → SafeSingles W s) → (1 < W.numbers.a → SafePairs W s) → Robust
   unfolding robust_on
   robust_all f h =
       sets_make (safe_on W (placed 16 s) s) (lots W) W.numbers.a
@@ -256,12 +283,12 @@ module _ {W : Week} {s words : List ℕ} (g : Going W s words) where
   pub robust_none : W.numbers.a < 1 → Robust
   robust_none l = robust_all (λ h. absurd (omega arith)) (λ h. absurd (omega arith))
 
-  pub robust_ones : W.numbers.a < 2 → SafeSingles W s (lots W) → Robust
+  pub robust_ones : W.numbers.a < 2 → SafeSingles W s → Robust
   robust_ones l f = robust_all (λ h. f) (λ h. absurd (omega arith))
 
-  pub verdict_all : (A : List ℕ) (is : Bool) → SafeSingles W s (lots W) → Verdict W s (SafePairs W s (lots W)) is A → Verdict W s Robust is A
-  verdict_all A true f h = robust_all (λ l. f) (λ l. h)
-  verdict_all A false f h = h
+  pub verdict_all : (r : Result Unit Unmended) → SafeSingles W s → Verdict W s (SafePairs W s) r → Verdict W s Robust r
+  verdict_all (Ok u) f h = robust_all (λ l. f) (λ l. h)
+  verdict_all (Err e) f h = h
 
 -- Room
 
@@ -300,3 +327,7 @@ module _ {W : Week} {s words : List ℕ} (g : Going W s words) where
 
   pub pressed_part : (q target : ℕ) (r : List ℕ) → Blamed (pair_rules W) s q target r → Part (lots W) s r
   pressed_part q target r b = record { size = b.size; part = b.part }
+
+-- the words that a part of the order leaves, and the groups of the lots that wait beside the order, serve where room is asked
+pub alone_roomed : (W : Week) (s words groups r left own : List ℕ) → Going W s words → Exclusive W groups → Made (lots W) (met_by (lots W) W.ties W.domain r (lots W)) left → OwnGroups s groups (lots W) own → Roomed W r left own
+alone_roomed W s words groups r left own g x m o = record { forward = words_forward (pair_rules W) r left (accepted W g.fine).symmetric m; exclusive = own_exclusive W s groups own x o }

@@ -1,15 +1,19 @@
 -- The losses of the lots that a partial order s places, judged: by free slots at once, or by the search for a repair. Assumes nothing.
-use Rattle.std.specs.Prelude.{◌≡◌, Bool, true, false, ◌&&◌, List, ℕ, ◌^◌, ◌<◌, length, get_or}
+use Rattle.std.specs.Prelude.{◌≡◌, Bool, true, ◌&&◌, List, ℕ, ◌^◌, ◌<◌, length, get_or, Result, MatchResult}
 use Rattle.week.specs.declared.Numbers.{Numbers}
 use Rattle.week.specs.Rules.{bit_of, tie_word}
-use Rattle.week.specs.Tables.{Week, lots, pair_rules, refusal}
+use Rattle.week.specs.Tables.{Week, lots, pair_rules, refusal, lent}
 use Rattle.pairs.specs.Pairs.{pair}
+use Rattle.repair.specs.declared.Lost.{Lost}
 use Rattle.repair.specs.Break.{single}
+use Rattle.repair.specs.Found.{lots_of}
 use Rattle.repair.specs.Repair.{replaces, helps}
+use Rattle.room.specs.declared.Partial.{Partial}
 use Rattle.parts.specs.Part.{placed}
-use Rattle.cuts.specs.Cut.{safe_on, robust_on}
+use Rattle.cuts.specs.Cut.{safe_on}
 use Rattle.cuts.specs.Hopes.{Forward, alive}
-use Rattle.cuts.specs.Reasons.{None, Why, Struck}
+use Rattle.cuts.specs.Reasons.{None, Why, Struck, Exclusive}
+use Rattle.hope.specs.declared.Unmended.{Unmended}
 
 -- s places some lots of an accepted week so that each lot still has a slot, and `words` has the slots that are left
 pub record Going (W : Week) (s words : List ℕ) : Type 0 where
@@ -53,22 +57,43 @@ pub record Paired (n : ℕ) (ties : List ℕ) (x first y last : ℕ) : Type 0 wh
 unfoldable pub risks : List ℕ → List ℕ → ℕ → Bool
 risks loss s p = bit_of (get_or loss p 0) (get_or s p 0)
 
--- the losses of one of the k first lots, of lot x with one of them behind it, and of two of which one is among them
-abbrev pub SafeSingles : Week → List ℕ → ℕ → Type 0
-SafeSingles W s k = (p : ℕ) → p < k → safe_on W (placed 16 s) s (single p) ≡ true
+-- the losses of one lot, of lot x with one behind it, and of two
+abbrev pub SafeSingles : Week → List ℕ → Type 0
+SafeSingles W s = (p : ℕ) → p < lots W → safe_on W (placed 16 s) s (single p) ≡ true
 
-abbrev pub SafePartners : Week → List ℕ → ℕ → ℕ → Type 0
-SafePartners W s x k = (q : ℕ) → x < q → q < k → safe_on W (placed 16 s) s (pair x q) ≡ true
+abbrev pub SafePartners : Week → List ℕ → ℕ → Type 0
+SafePartners W s x = (q : ℕ) → x < q → q < lots W → safe_on W (placed 16 s) s (pair x q) ≡ true
 
-abbrev pub SafePairs : Week → List ℕ → ℕ → Type 0
-SafePairs W s k = (p : ℕ) → p < k → SafePartners W s p (lots W)
+abbrev pub SafePairs : Week → List ℕ → Type 0
+SafePairs W s = (p : ℕ) → p < lots W → SafePartners W s p
 
--- what is asked is safe; or A is a break without a repair, and no super solution extends s
-abbrev pub Verdict : Week → List ℕ → Type 0 → Bool → List ℕ → Type 0
-Verdict W s Safe true A = Safe
-Verdict W s Safe false A = Struck W s A × None W s
+-- what is asked is safe; or the lots of the loss are a break without a repair, and no super solution extends s
+abbrev pub Verdict : Week → List ℕ → Type 0 → Result Unit Unmended → Type 0
+Verdict W s Safe result = MatchResult result (λ _. Safe) (λ e. Struck W s (lots_of e.lost) × None W s)
 
--- each break of the placed lots has a repair among them; or r is why s can not be finished
-abbrev pub Hopes : Week → List ℕ → Bool → List ℕ → Type 0
-Hopes W s true r = robust_on W (placed 16 s) s ≡ true
-Hopes W s false r = Why W s r
+-- A partial order, as the code holds it
+
+abbrev pub GoingAt : Partial → Type 0
+GoingAt at = Going (lent at.week) at.order.now at.words.now
+
+abbrev pub JudgingAt : Partial → List ℕ → Type 0
+JudgingAt at free = Judging (lent at.week) at.order.now at.words.now free
+
+-- no two lots of a group may stand in one slot
+abbrev pub GroupedAt : Partial → Type 0
+GroupedAt at = Exclusive (lent at.week) at.groups.now
+
+-- lot p stands in a slot of its loss word
+abbrev pub RisksAt : Partial → ℕ → Type 0
+RisksAt at p = (p < at.week.numbers.n) × (risks at.week.loss.now at.order.now p ≡ true)
+
+-- the loss is a break without a repair, and no super solution extends the order
+abbrev pub DeadAt : Partial → Lost → Type 0
+DeadAt at lost = Struck (lent at.week) at.order.now (lots_of lost) × None (lent at.week) at.order.now
+
+-- r, in 24 places, is why the order can not be finished
+abbrev pub WhyAt : Partial → List ℕ → Type 0
+WhyAt at r = (length r ≡ 24) × Why (lent at.week) at.order.now r
+
+abbrev pub VerdictAt : Partial → Type 0 → Result Unit Unmended → Type 0
+VerdictAt at Safe result = Verdict (lent at.week) at.order.now Safe result

@@ -3,77 +3,74 @@
 // A slot over 15 means that a lot is not placed. A forward word has the slots that are left to a lot beside the placed ones.
 #![tactic(auto)]
 
-ghost use Rattle.std.specs.Prelude.{◌≡◌, true, false, ◌≤◌, ◌<◌, length};
-ghost use Rattle.week.specs.Rules.{rules};
-ghost use Rattle.week.specs.Tables.{week};
+ghost use Rattle.std.specs.Prelude.{◌≡◌, true, ℕ, Ok, Err, ◌≤◌, ◌<◌, length, MatchResult};
+ghost use Rattle.week.specs.Rules.{rules_of};
+ghost use Rattle.week.specs.Tables.{lent};
+ghost use Rattle.pairs.specs.Pairs.{pair};
+ghost use Rattle.repair.specs.Break.{single};
 ghost use Rattle.repair.specs.Found.{lots_of};
 ghost use Rattle.parts.specs.Part.{placed};
-ghost use Rattle.cuts.specs.Cut.{robust_on};
-ghost use Rattle.cuts.specs.Reasons.{None, Why, Struck, Exclusive};
+ghost use Rattle.cuts.specs.Cut.{safe_on, robust_on};
+ghost use Rattle.cuts.specs.Reasons.{None, Why, Struck, Judges, Exclusive};
 ghost use Rattle.hope.specs.Blame.{Part, Merged, Bound, Blamed, own_group, OwnGroups};
-ghost use Rattle.hope.specs.Safe.{Frees, Freed, Paired, risks, SafeSingles, SafePartners, SafePairs, Verdict, Going, Judging, Hopes};
+ghost use Rattle.hope.specs.Safe.{Frees, Freed, Paired, risks, SafeSingles, SafePartners, SafePairs, GoingAt, JudgingAt, GroupedAt, RisksAt, DeadAt, WhyAt, VerdictAt, Going};
 
-use repair::Lost;
-use week::{Lot, Numbers, Slot};
+use mend::LotSet;
+use repair::{Case, Lost};
+use room::Partial;
+use week::{Lot, Numbers, Rules, Slot};
+
+// Why a partial order can not be finished: a part of it that no super solution extends, and the loss that shows it, if one does.
+#[derive(Clone, Copy)]
+pub struct Dead {
+    pub lost: Option<Lost>,
+    pub why: [u8; 24],
+}
+
+// A loss of placed lots that has no repair, and the lots that the search for one met.
+#[derive(Clone, Copy)]
+struct Unmended {
+    lost: Lost,
+    met: LotSet,
+}
+
+// No lot of a week: a merge that leaves out this one leaves out none.
+const NO_LOT: Lot = Lot(24);
 
 // To the lots that a part of an order places, those but x of another part.
-#[tactic(auto, using(crate::proofs::Blame::merging_keep))]
-pub fn merge(part: &mut [u8], more: &[u8], x: Lot)
-    requires { (length part.old ≡ 24) × (length more.now ≡ 24) }
+pub fn merge(part: &mut [u8; 24], more: &[u8; 24], x: Lot)
     ensures { Merged part.old more.now x.0 part.new }
 {
-    let mut p: u8 = 0;
-    while p < 24 {
-        let at = p as usize;
-        p += 1;
-        if part[at] < 16 {
-            continue;
+    for (p, slot) in more.iter().enumerate() {
+        if 16 <= part[p] && p != usize::from(x.0) {
+            part[p] = *slot;
         }
-        if at == x.0 as usize {
-            continue;
-        }
-        part[at] = more[at];
     }
 }
 
-// The lots that a part a of an order places, and those but x of a part b.
-fn merged(a: [u8; 24], b: [u8; 24], x: Lot) -> [u8; 24]
-    requires { (length a ≡ 24) × (length b ≡ 24) }
-    ensures { Merged a b x.0 result }
-{
-    let mut both = a;
-    merge(&mut both, &b, x);
-    both
-}
-
 // A part of an order beside which lot q has no slots but those of `target`, where it has none beside the whole: in turn each lot that takes another from q.
-pub fn blamed(n: u32, domain: &[u16], ties: &[u16], order: &[u8], q: Lot, target: u16) -> [u8; 24]
-    requires { Bound (rules n domain.now ties.now) order.now q.0 target }
-    ensures { Blamed (rules n domain.now ties.now) order.now q.0 target result }
+pub fn blamed(rules: &Rules<'_>, order: &[u8], q: Lot, target: u16) -> [u8; 24]
+    requires { Bound (rules_of rules.now) order.now q.0 target }
+    ensures { Blamed (rules_of rules.now) order.now q.0 target result }
 {
     let mut part = [16u8; 24];
-    let own = week::word_of(domain, q);
-    let mut rest = own ^ (own & target);
-    let mut p: u8 = 0;
-    while (p as u32) < n {
+    let own = week::word_of(rules.domain, q);
+    let mut rest = own & !target;
+    for p in 0..rules.lots as u8 {
         if rest == 0 {
             return part;
         }
-        let v = week::slot_in(order, Lot(p));
-        let at = p as usize;
-        p += 1;
-        if 16 <= v.0 {
+        let x = Lot(p);
+        let v = week::slot_in(order, x);
+        if 16 <= v.0 || x == q {
             continue;
         }
-        if at as u8 == q.0 {
-            continue;
-        }
-        let tie = week::tie_word(n, ties, Lot(at as u8), v, q);
+        let tie = rules.tie_word(x, v, q);
         if week::within(rest, tie) {
             continue;
         }
-        part[at] = v.0;
-        rest = rest & tie;
+        part[usize::from(p)] = v.0;
+        rest &= tie;
     }
     part
 }
@@ -87,518 +84,326 @@ fn free_word(numbers: Numbers, w: Slot) -> u16
         return 0;
     }
     if numbers.alternative == 1 {
-        if 15 <= at as u64 + numbers.gap as u64 {
+        if 15 <= u64::from(at) + u64::from(numbers.gap) {
             return 0;
         }
-        return 65535u16 << (at as u32 + numbers.gap + 1);
+        return 65535u16 << (u32::from(at) + numbers.gap + 1);
     }
     if numbers.helper == 1 {
         return 65534u16 << at;
     }
-    65535u16 - (1u16 << at)
+    !(1u16 << at)
 }
 
 // Of each lot, the slots that are left to it beside the placed lots and to which it may go if it is lost.
-fn free_words(numbers: Numbers, order: &[u8], words: &[u16]) -> [u16; 24]
-    requires { numbers.n ≤ 24 }
-    ensures { Freed numbers order.now words.now numbers.n result }
+fn free_words(at: &Partial<'_>) -> [u16; 24]
+    requires { at.now.week.numbers.n ≤ 24 }
+    ensures { Freed at.now.week.numbers at.now.order.now at.now.words.now at.now.week.numbers.n result }
 {
+    let numbers = at.week.numbers;
     let mut free = [0u16; 24];
-    let mut p: u8 = 0;
-    while (p as u32) < numbers.n {
-        free[p as usize] = week::word_of(words, Lot(p))
-            & free_word(numbers, week::slot_in(order, Lot(p)));
-        p += 1;
+    for p in 0..numbers.n as u8 {
+        let x = Lot(p);
+        free[usize::from(p)] = week::word_of(at.words, x)
+            & free_word(numbers, week::slot_in(at.order, x));
     }
     free
 }
 
 // Whether lot x has a slot of one word, and lot y one of another, that may stand together.
-fn has_pair(n: u32, ties: &[u16], x: Lot, first: u16, y: Lot, last: u16) -> bool
-    ensures { result ≡ true → Paired n ties.now x.0 first y.0 last }
+fn has_pair(rules: &Rules<'_>, x: Lot, first: u16, y: Lot, last: u16) -> bool
+    ensures { result ≡ true → Paired rules.now.lots rules.now.ties.now x.0 first y.0 last }
 {
-    let mut v: u8 = 0;
-    while v < 16 {
-        let here = Slot(v);
-        v += 1;
-        if !week::bit(first, here) {
-            continue;
-        }
-        if week::tie_word(n, ties, x, here, y) & last != 0 {
-            return true;
-        }
-    }
-    false
+    (0..16).any(|v| week::bit(first, Slot(v)) && rules.tie_word(x, Slot(v), y) & last != 0)
 }
 
 // Whether a lot stands in a slot of its loss word.
-fn at_risk(loss: &[u16], order: &[u8], p: Lot) -> bool
-    ensures { result ≡ risks loss.now order.now p.0 }
+#[tactic(auto, unfolding(crate::specs::Safe::risks))]
+fn at_risk(at: &Partial<'_>, p: Lot) -> bool
+    ensures { result ≡ risks at.now.week.loss.now at.now.order.now p.0 }
 {
-    week::bit(week::word_of(loss, p), week::slot_in(order, p))
+    week::bit(week::word_of(at.week.loss, p), week::slot_in(at.order, p))
 }
 
-// A loss of placed lots judged: none is without a repair; or `lost` is, and the search for one met the lots of the bits of `met`.
-#[derive(Clone, Copy)]
-struct Losses {
-    is: bool,
-    lost: Lost,
-    met: u32,
+// Judges each lot at risk, from lot `from` on, up to the first that fails.
+fn each_at_risk<F: Fn(Lot) -> Result<(), Unmended>>(
+    at: &Partial<'_>,
+    from: u8,
+    judge: F,
+) -> Result<(), Unmended>
+    requires going { GoingAt at.now }
+    requires asks { (p : ℕ) → from ≤ p → RisksAt at.now p → F.pre judge (record { 0 = p }) }
+    ensures { MatchResult result (λ _. (p : ℕ) → from ≤ p → RisksAt at.now p → F.post judge (record { 0 = p }) (Ok tt)) (λ e. (p : ℕ) × F.post judge (record { 0 = p }) (Err e)) }
+{
+    for p in from..at.week.numbers.n as u8 {
+        if at_risk(at, Lot(p)) {
+            judge(Lot(p))?;
+        }
+    }
+    Ok(())
 }
 
-// Whether each loss of one placed lot has a repair: a free slot is one at once.
-fn singles_safe(
-    numbers: Numbers,
-    domain: &[u16],
-    loss: &[u16],
-    give: &[u16],
-    ties: &[u16],
-    order: &[u8],
-    words: &[u16],
-    free: &[u16],
-) -> Losses
-    requires { Judging (week numbers domain.now loss.now give.now ties.now) order.now words.now free.now × (1 ≤ numbers.a) }
-    ensures { Verdict (week numbers domain.now loss.now give.now ties.now) order.now (SafeSingles (week numbers domain.now loss.now give.now ties.now) order.now numbers.n) result.is (lots_of result.lost) }
+// Whether a loss that breaks the placed lots has a repair.
+fn mended(at: &Partial<'_>, lost: Lost) -> Result<(), Unmended>
+    requires { Struck (lent at.now.week) at.now.order.now (lots_of lost) }
+    ensures { VerdictAt at.now (Judges (lent at.now.week) at.now.order.now (lots_of lost) true) result }
 {
-    let mut x: u8 = 0;
-    while (x as u32) < numbers.n {
-        let p = Lot(x);
-        x += 1;
-        if !at_risk(loss, order, p) {
-            continue;
-        }
-        if week::word_of(free, p) != 0 {
-            continue;
-        }
-        let mended = mend::has_repair(numbers, domain, loss, give, ties, order, Lost(p, p));
-        if !mended.is {
-            return Losses {
-                is: false,
-                lost: Lost(p, p),
-                met: mended.met,
-            };
-        }
-    }
-    Losses {
-        is: true,
-        lost: Lost(Lot(0), Lot(0)),
-        met: 0,
-    }
+    let case = Case {
+        week: at.week,
+        order: at.order,
+        lost,
+    };
+    mend::has_repair(&case).map_err(|met| Unmended { lost, met })
 }
 
-// Whether each loss of lot x, which is at risk, with a placed lot behind it has a repair: two free slots that may stand together are one at once.
-fn partners_safe(
-    numbers: Numbers,
-    domain: &[u16],
-    loss: &[u16],
-    give: &[u16],
-    ties: &[u16],
-    order: &[u8],
-    words: &[u16],
-    free: &[u16],
-    x: Lot,
-) -> Losses
-    requires { Judging (week numbers domain.now loss.now give.now ties.now) order.now words.now free.now × (2 ≤ numbers.a) × (risks loss.now order.now x.0 ≡ true) × (x.0 < numbers.n) }
-    ensures { Verdict (week numbers domain.now loss.now give.now ties.now) order.now (SafePartners (week numbers domain.now loss.now give.now ties.now) order.now x.0 numbers.n) result.is (lots_of result.lost) }
+// Whether the loss of one lot at risk has a repair: a free slot is one at once.
+fn single_safe(at: &Partial<'_>, free: &[u16; 24], x: Lot) -> Result<(), Unmended>
+    requires { JudgingAt at.now free.now × (1 ≤ at.now.week.numbers.a) × RisksAt at.now x.0 }
+    ensures { VerdictAt at.now (safe_on (lent at.now.week) (placed 16 at.now.order.now) at.now.order.now (single x.0) ≡ true) result }
 {
-    let own = week::word_of(free, x);
-    let mut y = x.0 + 1;
-    while (y as u32) < numbers.n {
-        let q = Lot(y);
-        y += 1;
-        if !at_risk(loss, order, q) {
-            continue;
-        }
-        if has_pair(numbers.n, ties, x, own, q, week::word_of(free, q)) {
-            continue;
-        }
-        let mended = mend::has_repair(numbers, domain, loss, give, ties, order, Lost(x, q));
-        if !mended.is {
-            return Losses {
-                is: false,
-                lost: Lost(x, q),
-                met: mended.met,
-            };
-        }
+    if week::word_of(free, x) != 0 {
+        return Ok(());
     }
-    Losses {
-        is: true,
-        lost: Lost(Lot(0), Lot(0)),
-        met: 0,
+    mended(at, Lost(x, x))
+}
+
+// Whether each loss of one placed lot has a repair.
+fn singles_safe(at: &Partial<'_>, free: &[u16; 24]) -> Result<(), Unmended>
+    requires { JudgingAt at.now free.now × (1 ≤ at.now.week.numbers.a) }
+    ensures { VerdictAt at.now (SafeSingles (lent at.now.week) at.now.order.now) result }
+{
+    each_at_risk(at, 0, |x| single_safe(at, free, x))
+}
+
+// Whether the loss of two lots at risk has a repair: two free slots that may stand together are one at once.
+fn pair_safe(at: &Partial<'_>, free: &[u16; 24], x: Lot, y: Lot) -> Result<(), Unmended>
+    requires { JudgingAt at.now free.now × (2 ≤ at.now.week.numbers.a) × RisksAt at.now x.0 × RisksAt at.now y.0 × (x.0 < y.0) }
+    ensures { VerdictAt at.now (safe_on (lent at.now.week) (placed 16 at.now.order.now) at.now.order.now (pair x.0 y.0) ≡ true) result }
+{
+    let rules = at.week.rules();
+    if has_pair(&rules, x, week::word_of(free, x), y, week::word_of(free, y)) {
+        return Ok(());
     }
+    mended(at, Lost(x, y))
+}
+
+// Whether each loss of lot x, which is at risk, with a placed lot behind it has a repair.
+fn partners_safe(at: &Partial<'_>, free: &[u16; 24], x: Lot) -> Result<(), Unmended>
+    requires { JudgingAt at.now free.now × (2 ≤ at.now.week.numbers.a) × RisksAt at.now x.0 }
+    ensures { VerdictAt at.now (SafePartners (lent at.now.week) at.now.order.now x.0) result }
+{
+    each_at_risk(at, x.0 + 1, |y| pair_safe(at, free, x, y))
 }
 
 // Whether each loss of two placed lots has a repair.
-fn pairs_safe(
-    numbers: Numbers,
-    domain: &[u16],
-    loss: &[u16],
-    give: &[u16],
-    ties: &[u16],
-    order: &[u8],
-    words: &[u16],
-    free: &[u16],
-) -> Losses
-    requires { Judging (week numbers domain.now loss.now give.now ties.now) order.now words.now free.now × (2 ≤ numbers.a) }
-    ensures { Verdict (week numbers domain.now loss.now give.now ties.now) order.now (SafePairs (week numbers domain.now loss.now give.now ties.now) order.now numbers.n) result.is (lots_of result.lost) }
+fn pairs_safe(at: &Partial<'_>, free: &[u16; 24]) -> Result<(), Unmended>
+    requires { JudgingAt at.now free.now × (2 ≤ at.now.week.numbers.a) }
+    ensures { VerdictAt at.now (SafePairs (lent at.now.week) at.now.order.now) result }
 {
-    let mut x: u8 = 0;
-    while (x as u32) < numbers.n {
-        let p = Lot(x);
-        x += 1;
-        if !at_risk(loss, order, p) {
-            continue;
-        }
-        let judged = partners_safe(numbers, domain, loss, give, ties, order, words, free, p);
-        if !judged.is {
-            return judged;
-        }
-    }
-    Losses {
-        is: true,
-        lost: Lost(Lot(0), Lot(0)),
-        met: 0,
-    }
+    each_at_risk(at, 0, |x| partners_safe(at, free, x))
 }
 
 // Whether each break of the placed lots has a repair among them; where one has none, no super solution places them so.
-fn all_safe(
-    numbers: Numbers,
-    domain: &[u16],
-    loss: &[u16],
-    give: &[u16],
-    ties: &[u16],
-    order: &[u8],
-    words: &[u16],
-) -> Losses
-    requires { Going (week numbers domain.now loss.now give.now ties.now) order.now words.now }
-    ensures { Verdict (week numbers domain.now loss.now give.now ties.now) order.now (robust_on (week numbers domain.now loss.now give.now ties.now) (placed 16 order.now) order.now ≡ true) result.is (lots_of result.lost) }
+fn all_safe(at: &Partial<'_>) -> Result<(), Unmended>
+    requires { GoingAt at.now }
+    ensures { VerdictAt at.now (robust_on (lent at.now.week) (placed 16 at.now.order.now) at.now.order.now ≡ true) result }
 {
+    let numbers = at.week.numbers;
     if numbers.a < 1 {
-        return Losses {
-            is: true,
-            lost: Lost(Lot(0), Lot(0)),
-            met: 0,
-        };
+        return Ok(());
     }
-    let free = free_words(numbers, order, words);
-    let one = singles_safe(numbers, domain, loss, give, ties, order, words, &free);
-    if !one.is {
-        return one;
-    }
+    let free = free_words(at);
+    singles_safe(at, &free)?;
     if numbers.a < 2 {
-        return one;
+        return Ok(());
     }
-    pairs_safe(numbers, domain, loss, give, ties, order, words, &free)
+    pairs_safe(at, &free)
 }
 
-// The lots of an order that are lost or in a set of bits.
-fn narrowed(order: [u8; 24], lots: u32, lost: Lost) -> [u8; 24]
-    requires { length order ≡ 24 }
-    ensures { Part 24 order result }
+// The lots of an order that are lost or that the search for a repair met.
+fn narrowed(order: &[u8], found: Unmended) -> [u8; 24]
+    requires { length order.now ≡ 24 }
+    ensures { Part 24 order.now result }
 {
     let mut part = [16u8; 24];
-    let mut left = lots;
-    let mut p: u8 = 0;
-    while p < 24 {
-        let at = p as usize;
-        let bit = left % 2;
-        left = left / 2;
-        p += 1;
-        if bit == 1 {
-            part[at] = order[at];
-            continue;
+    for (p, slot) in order.iter().enumerate() {
+        if found.met.has(Lot(p as u8)) || found.lost.has(Lot(p as u8)) {
+            part[p] = *slot;
         }
-        if !repair::is_lost(lost, Lot(at as u8)) {
-            continue;
-        }
-        part[at] = order[at];
     }
     part
+}
+
+// An order by value: it has a place for each of 24 lots.
+fn whole(order: &[u8]) -> [u8; 24]
+    requires { length order.now ≡ 24 }
+    ensures { result ≡ order.now }
+{
+    let mut places = [0u8; 24];
+    places.copy_from_slice(order);
+    places
 }
 
 // Why an order with a break that has no repair can not be finished: the lots that the search for a repair met, if they alone have none; else the order.
-fn why_unsafe(
-    numbers: Numbers,
-    domain: &[u16],
-    loss: &[u16],
-    give: &[u16],
-    ties: &[u16],
-    order: [u8; 24],
-    judged: Losses,
-) -> [u8; 24]
-    requires { (length order ≡ 24) × (Struck (week numbers domain.now loss.now give.now ties.now) order (lots_of judged.lost) × None (week numbers domain.now loss.now give.now ties.now) order) }
-    ensures { (length result ≡ 24) × Why (week numbers domain.now loss.now give.now ties.now) order result }
+fn why_unsafe(at: &Partial<'_>, found: Unmended) -> Dead
+    requires { (length at.now.order.now ≡ 24) × DeadAt at.now found.lost }
+    ensures { WhyAt at.now result.why }
 {
-    let part = narrowed(order, judged.met, judged.lost);
-    if !robust::is_break(loss, &part, judged.lost) {
-        return order;
+    let part = narrowed(at.order, found);
+    let case = Case {
+        week: at.week,
+        order: &part,
+        lost: found.lost,
+    };
+    let dead = robust::is_break(&case) && mend::has_repair(&case).is_err();
+    Dead {
+        lost: Some(found.lost),
+        why: if dead { part } else { whole(at.order) },
     }
-    let mended = mend::has_repair(numbers, domain, loss, give, ties, &part, judged.lost);
-    if mended.is {
-        return order;
-    }
-    part
 }
 
 // The lots that take slots from groups that have none to spare, a first guess at why these have too little room: any part of the order is right.
-fn pressed(
-    numbers: Numbers,
-    domain: &[u16],
-    loss: &[u16],
-    give: &[u16],
-    ties: &[u16],
-    order: &[u8],
-    words: &[u16],
-    groups: &[u8],
-) -> [u8; 24]
-    requires { Going (week numbers domain.now loss.now give.now ties.now) order.now words.now }
-    ensures { Part numbers.n order.now result }
+fn pressed(at: &Partial<'_>) -> [u8; 24]
+    requires { GoingAt at.now }
+    ensures { Part at.now.week.numbers.n at.now.order.now result }
 {
-    let all = room::count_rooms(numbers.n, order, words, groups);
-    let lots = all.lots;
-    let slots = all.slots;
+    let rules = at.week.rules();
+    let rooms = at.rooms();
     let mut part = [16u8; 24];
-    let mut p: u8 = 0;
-    while (p as u32) < numbers.n {
+    for p in 0..at.week.numbers.n as u8 {
         let q = Lot(p);
-        p += 1;
-        if room::is_placed(order, q) {
+        let g = usize::from(room::group_of(at.groups, q).0);
+        if room::is_placed(at.order, q) || 24 <= g {
             continue;
         }
-        let g = room::group_of(groups, q).0;
-        if 24 <= g {
-            continue;
+        let room = rooms[g];
+        if room.is_full() {
+            let target = room.slots | week::word_of(at.words, q);
+            merge(&mut part, &blamed(&rules, at.order, q, target), NO_LOT);
         }
-        let own = slots[g as usize];
-        if !is_full(lots[g as usize], own) {
-            continue;
-        }
-        let blame = blamed(
-            numbers.n,
-            domain,
-            ties,
-            order,
-            q,
-            own | week::word_of(words, q),
-        );
-        let more = merged(part, blame, Lot(24));
-        part = more;
     }
     part
 }
 
-// Whether two lots or more have no slot to spare.
-fn is_full(lots: u8, slots: u16) -> bool {
-    if lots < 2 {
-        return false;
-    }
-    u32::count_ones(slots as u32) <= lots as u32
-}
-
 // The group of a lot that waits; a placed lot has a number of its own, which is no group's.
-fn own_group(order: &[u8], groups: &[u8], p: Lot) -> u8
+#[tactic(auto, unfolding(crate::specs::Blame::own_group))]
+fn own_group(at: &Partial<'_>, p: Lot) -> u8
     requires { p.0 < 24 }
-    ensures { result ≡ own_group order.now groups.now p.0 }
+    ensures { result ≡ own_group at.now.order.now at.now.groups.now p.0 }
 {
-    let g = room::group_of(groups, p).0;
-    if room::is_placed(order, p) {
-        return 24 + p.0;
-    }
-    if 24 <= g {
+    let g = room::group_of(at.groups, p).0;
+    if room::is_placed(at.order, p) || 24 <= g {
         return 24 + p.0;
     }
     g
 }
 
 // The groups of the lots that wait beside an order: where fewer lots are placed, room is still asked of these alone.
-fn own_groups(n: u32, order: &[u8], groups: &[u8]) -> [u8; 24]
-    requires { n ≤ 24 }
-    ensures { OwnGroups order.now groups.now n result }
+fn own_groups(at: &Partial<'_>) -> [u8; 24]
+    requires { at.now.week.numbers.n ≤ 24 }
+    ensures { OwnGroups at.now.order.now at.now.groups.now at.now.week.numbers.n result }
 {
     let mut own = [0u8; 24];
-    let mut p: u8 = 0;
-    while (p as u32) < n {
-        own[p as usize] = own_group(order, groups, Lot(p));
-        p += 1;
+    for p in 0..at.week.numbers.n as u8 {
+        own[usize::from(p)] = own_group(at, Lot(p));
     }
     own
 }
 
 // Why an order in which a group has too little room can not be finished: the lots that take its slots, if they alone leave too little; else the order.
-fn why_crowded(
-    numbers: Numbers,
-    domain: &[u16],
-    loss: &[u16],
-    give: &[u16],
-    ties: &[u16],
-    order: [u8; 24],
-    words: &[u16],
-    groups: &[u8],
-) -> [u8; 24]
-    requires { (Going (week numbers domain.now loss.now give.now ties.now) order words.now) × (Exclusive (week numbers domain.now loss.now give.now ties.now) groups.now × None (week numbers domain.now loss.now give.now ties.now) order) }
-    ensures { (length result ≡ 24) × Why (week numbers domain.now loss.now give.now ties.now) order result }
+fn why_crowded(at: &Partial<'_>) -> Dead
+    requires { GoingAt at.now × (GroupedAt at.now × None (lent at.now.week) at.now.order.now) }
+    ensures { WhyAt at.now result.why }
 {
-    let part = pressed(numbers, domain, loss, give, ties, &order, words, groups);
-    let left = room::words_of(numbers.n, domain, ties, &part);
-    let own = own_groups(numbers.n, &order, groups);
-    if room::slack(numbers.n, &part, &left, &own) != 0 {
-        return order;
-    }
-    part
+    let part = pressed(at);
+    let rules = at.week.rules();
+    let words = room::words_of(&rules, &part);
+    let groups = own_groups(at);
+    let alone = Partial {
+        week: at.week,
+        order: &part,
+        words: &words,
+        groups: &groups,
+    };
+    let why = if alone.slack() == 0 {
+        part
+    } else {
+        whole(at.order)
+    };
+    Dead { lost: None, why }
 }
 
-// The first lot at risk whose loss has no repair that leaves the other lots room; `is` where there is none.
-fn first_cramped(
-    numbers: Numbers,
-    domain: &[u16],
-    loss: &[u16],
-    give: &[u16],
-    ties: &[u16],
-    order: &[u8],
-    words: &[u16],
-    groups: &[u8],
-) -> Losses
-    requires { (Going (week numbers domain.now loss.now give.now ties.now) order.now words.now) × (Exclusive (week numbers domain.now loss.now give.now ties.now) groups.now × (1 ≤ numbers.a)) }
-    ensures { result.is ≡ false → Struck (week numbers domain.now loss.now give.now ties.now) order.now (lots_of result.lost) × None (week numbers domain.now loss.now give.now ties.now) order.now }
+// Whether the loss of one lot at risk has a repair that leaves the other lots room.
+fn single_roomy(at: &Partial<'_>, x: Lot) -> Result<(), Unmended>
+    requires { GoingAt at.now × GroupedAt at.now × (1 ≤ at.now.week.numbers.a) × RisksAt at.now x.0 }
+    ensures { VerdictAt at.now (Unit {0}) result }
 {
-    let mut x: u8 = 0;
-    while (x as u32) < numbers.n {
-        let p = Lot(x);
-        x += 1;
-        if !at_risk(loss, order, p) {
-            continue;
-        }
-        let mended = mend::has_roomy_repair(
-            numbers,
-            domain,
-            loss,
-            give,
-            ties,
-            order,
-            words,
-            groups,
-            Lost(p, p),
-        );
-        if !mended.is {
-            return Losses {
-                is: false,
-                lost: Lost(p, p),
-                met: mended.met,
-            };
-        }
-    }
-    Losses {
-        is: true,
-        lost: Lost(Lot(0), Lot(0)),
-        met: 0,
-    }
+    let lost = Lost(x, x);
+    mend::has_roomy_repair(at, lost).map_err(|met| Unmended { lost, met })
+}
+
+// Whether each loss of one placed lot has a repair that leaves the other lots room.
+fn singles_roomy(at: &Partial<'_>) -> Result<(), Unmended>
+    requires { GoingAt at.now × (GroupedAt at.now × (1 ≤ at.now.week.numbers.a)) }
+    ensures { VerdictAt at.now (Unit {0}) result }
+{
+    each_at_risk(at, 0, |x| single_roomy(at, x))
 }
 
 // Why an order with a break that has no repair with room can not be finished: the lots that the search for one met and those that take the full groups'
 // slots, if they alone have none; else the order.
-fn why_cramped(
-    numbers: Numbers,
-    domain: &[u16],
-    loss: &[u16],
-    give: &[u16],
-    ties: &[u16],
-    order: [u8; 24],
-    words: &[u16],
-    groups: &[u8],
-    found: Losses,
-) -> [u8; 24]
-    requires { (Going (week numbers domain.now loss.now give.now ties.now) order words.now) × (Exclusive (week numbers domain.now loss.now give.now ties.now) groups.now × (Struck (week numbers domain.now loss.now give.now ties.now) order (lots_of found.lost) × None (week numbers domain.now loss.now give.now ties.now) order)) }
-    ensures { (length result ≡ 24) × Why (week numbers domain.now loss.now give.now ties.now) order result }
+fn why_cramped(at: &Partial<'_>, found: Unmended) -> Dead
+    requires { GoingAt at.now × (GroupedAt at.now × DeadAt at.now found.lost) }
+    ensures { WhyAt at.now result.why }
 {
-    let met = narrowed(order, found.met, found.lost);
-    let full = pressed(numbers, domain, loss, give, ties, &order, words, groups);
-    let part = merged(met, full, Lot(24));
-    if !robust::is_break(loss, &part, found.lost) {
-        return order;
+    let mut part = narrowed(at.order, found);
+    merge(&mut part, &pressed(at), NO_LOT);
+    let case = Case {
+        week: at.week,
+        order: &part,
+        lost: found.lost,
+    };
+    let lost = Some(found.lost);
+    if !robust::is_break(&case) {
+        return Dead {
+            lost,
+            why: whole(at.order),
+        };
     }
-    let left = room::words_of(numbers.n, domain, ties, &part);
-    let own = own_groups(numbers.n, &order, groups);
-    let mended = mend::has_roomy_repair(
-        numbers, domain, loss, give, ties, &part, &left, &own, found.lost,
-    );
-    if mended.is {
-        return order;
+    let rules = at.week.rules();
+    let words = room::words_of(&rules, &part);
+    let groups = own_groups(at);
+    let alone = Partial {
+        week: at.week,
+        order: &part,
+        words: &words,
+        groups: &groups,
+    };
+    let dead = mend::has_roomy_repair(&alone, found.lost).is_err();
+    Dead {
+        lost,
+        why: if dead { part } else { whole(at.order) },
     }
-    part
-}
-
-// A partial order judged: it may be finished, as far as its placed lots tell; or `why` is why it can not, and `lost` the loss that shows it, if one does.
-#[derive(Clone, Copy)]
-pub struct Judged {
-    pub is: bool,
-    pub lost: Lost,
-    pub why: [u8; 24],
 }
 
 // Whether a partial order may still be finished, as far as its placed lots tell. Room is asked of repairs only where some group has no slot to spare: it
 // costs much and tells little elsewhere.
-pub fn judge(
-    numbers: Numbers,
-    domain: &[u16],
-    loss: &[u16],
-    give: &[u16],
-    ties: &[u16],
-    order: [u8; 24],
-    words: &[u16],
-    groups: &[u8],
-) -> Judged
-    requires { (Going (week numbers domain.now loss.now give.now ties.now) order words.now) × Exclusive (week numbers domain.now loss.now give.now ties.now) groups.now }
-    ensures { (length result.why ≡ 24) × Hopes (week numbers domain.now loss.now give.now ties.now) order result.is result.why }
+pub fn judge(at: &Partial<'_>) -> Result<(), Dead>
+    requires { (Going (lent at.now.week) at.now.order.now at.now.words.now) × Exclusive (lent at.now.week) at.now.groups.now }
+    ensures { MatchResult result (λ _. robust_on (lent at.now.week) (placed 16 at.now.order.now) at.now.order.now ≡ true) (λ dead. (length dead.why ≡ 24) × Why (lent at.now.week) at.now.order.now dead.why) }
 {
-    let spare = room::slack(numbers.n, &order, words, groups);
+    let spare = at.slack();
     if spare == 0 {
-        let crowded = why_crowded(numbers, domain, loss, give, ties, order, words, groups);
-        return Judged {
-            is: false,
-            lost: Lost(Lot(24), Lot(24)),
-            why: crowded,
-        };
+        return Err(why_crowded(at));
     }
-    let plain = all_safe(numbers, domain, loss, give, ties, &order, words);
-    let lost = plain.lost;
-    if !plain.is {
-        let part = why_unsafe(numbers, domain, loss, give, ties, order, plain);
-        return Judged {
-            is: false,
-            lost,
-            why: part,
-        };
+    if let Err(found) = all_safe(at) {
+        return Err(why_unsafe(at, found));
     }
-    if 1 < spare {
-        return Judged {
-            is: true,
-            lost,
-            why: order,
-        };
+    if 1 < spare || at.week.numbers.a < 1 {
+        return Ok(());
     }
-    if numbers.a < 1 {
-        return Judged {
-            is: true,
-            lost,
-            why: order,
-        };
+    if let Err(found) = singles_roomy(at) {
+        return Err(why_cramped(at, found));
     }
-    let found = first_cramped(numbers, domain, loss, give, ties, &order, words, groups);
-    let alone = found.lost;
-    if found.is {
-        return Judged {
-            is: true,
-            lost,
-            why: order,
-        };
-    }
-    let cramped = why_cramped(
-        numbers, domain, loss, give, ties, order, words, groups, found,
-    );
-    Judged {
-        is: false,
-        lost: alone,
-        why: cramped,
-    }
+    Ok(())
 }

@@ -1,5 +1,6 @@
 pub mod Dictionary
 pub mod Every
+pub mod Ranges
 pub mod First
 pub mod Lists
 pub mod Scan

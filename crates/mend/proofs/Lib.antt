@@ -1,4 +1,4 @@
 pub mod Sets
-pub mod Tests
+pub mod Opens
 pub mod Later
 pub mod Moving

@@ -1,6 +1,6 @@
 -- Decided moves, way by way through the search: what they leave open, that they fail, that they are enough, and one more decided move.
 -- Assumes nothing.
-use mathlib.Core.Path.{◌≡◌, refl, sym, ◌∙◌, ap, ap₂}
+use mathlib.Core.Path.{◌≡◌, refl, sym, ◌∙◌, ap, ap₂, subst}
 use mathlib.Core.Bool.{Bool, true, false, ◌&&◌, ◌||◌, not, cond, and-true, and_assoc, or-true}
 use mathlib.Core.Logic.{◌≢◌}
 use mathlib.Core.List.{List, []}
@@ -17,9 +17,10 @@ use borrow.Author.Tests.{ltb-true, ltb-false, lt-ltb, le-ltb, eq-eqb, ne_eqb, no
 use Rattle.lex.specs.Every.{imp, every, one_if, count}
 use Rattle.lex.proofs.Every.{both, and_left, and_right, false_of, not_both, same_truth, imp_in, imp_out, every_true, every_at}
 use Rattle.week.specs.Rules.{Rules, bit_of, in_domain, tie_word, together}
-use Rattle.week.specs.Tables.{Week, lots, pair_rules}
-use Rattle.week.proofs.Rules.{Symmetric}
+use Rattle.week.specs.Tables.{Week, lots, lent, pair_rules}
+use Rattle.week.proofs.Standing.{Symmetric}
 use Rattle.week.proofs.Tables.{accepted}
+use Rattle.repair.specs.declared.Case.{Case as HeldCase}
 use Rattle.repair.specs.declared.Lost.{Lost}
 use Rattle.repair.specs.Found.{lots_of}
 use Rattle.repair.specs.Repair.{Case, is_lost, may_go, moves}
@@ -34,8 +35,12 @@ use Rattle.cuts.proofs.Cut.{KeepsOn, count_fewer}
 use Rattle.cuts.proofs.Hopes.{suits_self, suits_free, suits_with, suits_else, suits_make, suits_at, suits_read, suits_own, alive_keeps}
 use Rattle.cuts.proofs.Moves.{goes_off, sound_decided, uses_decided, sound_undecided, uses_undecided, at_rest, Lands, lands_read, lands_make, may_make, sound_at, few_uses, may_out}
 use Rattle.cuts.proofs.Settled.{settled_mended}
+use Rattle.room.specs.declared.Partial.{Partial}
+use Rattle.room.specs.Room.{room_by}
+use Rattle.room.proofs.None.{room_none}
 use Rattle.mend.specs.Sets.{has, SetOf, minus}
-use Rattle.mend.specs.Mend.{driven, stuck, opens, Opens, Moving, Tells}
+use Rattle.mend.specs.Mend.{driven, stuck, opens, Opens, Moving, Tells, MovingBy, RoomedBy}
+use Rattle.mend.specs.declared.Moves.{Moves}
 use Rattle.mend.proofs.Sets.{has_and, has_or, has_minus, has_one, has_low, has_zero, minus_low, member, ones_count, ones_some}
 use Rattle.mend.proofs.Later.{later_needed, lost_lot, lost_placed, struck_none}
 
@@ -476,3 +481,19 @@ module _ (W : Week) (s : List ℕ) (L : Lost) (c : Struck W s (lots_of L)) where
   pub judged : (r : Bool) → Tells W s (lots_of L) none r → Judges W s (lots_of L) r
   judged true f = f
   judged false f = struck_none W s (lots_of L) c (λ u q. f u q (λ p l g. absurd (let a = idle p l in omega arith)))
+
+-- What the lots driven by lot x in slot v are, by pair rules R that are the week's
+
+pub driven_week : (R : Rules) (W : Week) → R ≡ pair_rules W → (s m : List ℕ) (x v k : ℕ) → SetOf R.lots (driven R.lots R.ties s m x v) k → SetOf (lots W) (driven (lots W) W.ties s m x v) k
+driven_week R W e s m x v k h = subst (λ (Q : Rules). SetOf Q.lots (driven Q.lots Q.ties s m x v) k) e h
+
+-- The test of room, where a partial order asks for it
+
+module _ (c : HeldCase) (at : Partial) (known : RoomedBy c at) where
+  pub asked_few : lots (lent c.week) ≤ 24 → at.week.numbers.n ≤ 24
+  asked_few h = rw (ap (λ (W : Week). lots W) known.week) h
+
+  pub no_room : (m : Moves) → MovingBy c m → room_by at.week.numbers.n at.week.ties.now at.order.now at.words.now at.groups.now m.slots m.left ≡ false → Tells (lent c.week) c.order.now (lots_of c.lost) m.slots false
+  no_room m moving e =
+      room_none (lent c.week) c.order.now (lots_of c.lost) m.slots at.words.now at.groups.now m.left moving.struck known.roomed.forward known.roomed.exclusive moving.spent
+      (subst (λ (W : Week). room_by (lots W) W.ties c.order.now at.words.now at.groups.now m.slots m.left ≡ false) known.week (rw known.order at e))

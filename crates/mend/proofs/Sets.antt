@@ -1,20 +1,21 @@
 -- Laws of sets of lots as bits: which lots are in a set made of others, that a set without lots is 0, its lowest lot, and how many lots it has.
 -- Assumes nothing.
-use mathlib.Core.Path.{◌≡◌, refl, sym, ◌∙◌, ap, ap₂}
-use mathlib.Core.Bool.{Bool, true, false, ◌&&◌, ◌||◌, not}
-use Prim.Native.Nat.{ℕ, zero, suc, ◌+◌, ◌*◌, ◌/◌, ◌%◌, ◌^◌, ◌<◌}
+use mathlib.Core.Path.{◌≡◌, refl, sym, ◌∙◌, ap, ap₂, subst}
+use mathlib.Core.Bool.{Bool, true, false, ◌&&◌, ◌||◌, not, or-true, or-false}
+use Prim.Native.Nat.{ℕ, zero, suc, ◌+◌, ◌/◌, ◌%◌, ◌^◌, ◌<◌}
 use native.Mathlib.Decide.{dec_lt, ℕ_discrete}
 use native.Mathlib.Nat.{mod-lt, div-eq_of_lt, div-one, zero-div, pow-succ', pow-le-pow_right}
 use native.Mathlib.Omega.{arith}
 use lib.Bits.{bit_and, bit_or, and_le_l, or_lt, xor_lt}
 use lib.Count.{ones, ones_step, under, count_trailing_zeros}
 use lib.Dec.{eqb}
-use lib.Pow.{pow-lt, shl_exact}
+use lib.Pow.{pow-lt}
 use borrow.Author.Tests.{eq-eqb, ne_eqb}
 use Rattle.lex.specs.Every.{one_if, count}
 use Rattle.lex.proofs.Every.{and_left, not_both, false_of, count_cong}
+use Rattle.week.specs.declared.Lot.{Lot}
 use Rattle.week.proofs.Words.{half_bit, place_and, place_or, place_without}
-use Rattle.mend.specs.Sets.{has, SetOf, minus}
+use Rattle.mend.specs.Sets.{has, minus}
 
 -- Bit by bit
 
@@ -125,46 +126,31 @@ count_member f (suc n) p h e = elim (dec_lt p n) [
 pub ones_some : (n k p : ℕ) → k < 2 ^ n → has k p ≡ true → 0 < ones k
 ones_some n k p h e = let a = ones_count n k h in let b = count_member (has k) n p (has_low n k p h e) e in omega arith
 
--- A set made lot after lot
+-- A set made of a test's answers, lot after lot: P says what the test may answer of a lot
 
-pub set_start : (f : ℕ → Bool) → SetOf 0 f 0
-set_start f = record { low = omega arith; each = λ p l. absurd (omega arith) }
+abbrev pub Answers : (Lot → Bool → Type 0) → ℕ → ℕ → Type 0
+Answers P n k = (k < 2 ^ n) × ((p : Lot) → p.0 < n → P p (has k p.0))
 
-module _ (f : ℕ → Bool) (n k : ℕ) (c : SetOf n f k) where
+module _ (P : Lot → Bool → Type 0) (n k : ℕ) (c : Answers P n k) where
   higher : k < 2 ^ (n + 1)
-  higher = let a = c.low in let b = pow-lt {i = n} {j = n + 1} (omega arith) in omega arith
+  higher = let a = c.0 in let b = pow-lt {i = n} {j = n + 1} (omega arith) in omega arith
 
-  -- lot n is in it
-  pub set_yes : (j : ℕ) → f n ≡ true → j ≡ bit_or k (2 ^ n) → SetOf (n + 1) f j
-  set_yes j e g = rw g (record {
-    low = or_lt (n + 1) k (2 ^ n) higher (pow-lt (omega arith));
-    each = λ p l. has_or k (2 ^ n) p ∙ elim (ℕ_discrete p n) [
-      | yes z ↦ rw (has_one n p, eq-eqb p n z) (rest (has k p) ∙ sym e ∙ ap f (sym z))
-      | no z ↦ rw (has_one n p, ne_eqb p n z) (same (has k p) ∙ c.each p (omega arith))
-    ];
-  })
-    where
-      rest : (b : Bool) → (b || true) ≡ true
-      rest true = refl
-      rest false = refl
+  -- it passes lot n
+  pub answers_yes : (j : ℕ) → P (record { 0 = n }) true → j ≡ bit_or k (2 ^ n) → Answers P (n + 1) j
+  answers_yes j h g = rw g (
+    or_lt (n + 1) k (2 ^ n) higher (pow-lt (omega arith)),
+    λ p l. elim (ℕ_discrete p.0 n) [
+      | yes z ↦ rw (has_or k (2 ^ n) p.0, has_one n p.0, eq-eqb p.0 n z, or-true) (subst (λ (q : ℕ). P (record { 0 = q }) true) (sym z) h)
+      | no z ↦ rw (has_or k (2 ^ n) p.0, has_one n p.0, ne_eqb p.0 n z, or-false) (c.1 p (omega arith))
+    ],
+  )
 
-      same : (b : Bool) → (b || false) ≡ b
-      same true = refl
-      same false = refl
-
-  -- it is not
-  pub set_no : (j : ℕ) → f n ≡ false → j ≡ k → SetOf (n + 1) f j
-  set_no j e g = rw g (record {
-    low = higher;
-    each = λ p l. elim (ℕ_discrete p n) [
-      | yes z ↦ false_of (has k p) (λ t. let a = has_low n k p c.low t in omega arith) ∙ sym e ∙ ap f (sym z)
-      | no z ↦ c.each p (omega arith)
-    ];
-  })
-
-pub set_end : {f : ℕ → Bool} {i n k : ℕ} → i ≡ n → SetOf i f k → SetOf n f k
-set_end e c = rw e at c
-
--- The set of one lot, as the code makes it
-pub one_lot_lem : (p : ℕ) → p < 24 → 1 * 2 ^ p % 2 ^ 32 ≡ 2 ^ p
-one_lot_lem p h = shl_exact {a = 1} 1 p 32 (omega arith) (omega arith) ∙ omega arith
+  -- it does not
+  pub answers_no : P (record { 0 = n }) false → Answers P (n + 1) k
+  answers_no h = (
+    higher,
+    λ p l. elim (ℕ_discrete p.0 n) [
+      | yes z ↦ rw (false_of (has k p.0) (λ t. let a = has_low n k p.0 c.0 t in omega arith)) (subst (λ (q : ℕ). P (record { 0 = q }) false) (sym z) h)
+      | no z ↦ c.1 p (omega arith)
+    ],
+  )

@@ -3,14 +3,18 @@
 use Rattle.std.specs.Prelude.{◌≡◌, Bool, true, false, ◌&&◌, not, List, ℕ, ◌<◌, length, get_or}
 use Rattle.lex.specs.Every.{imp, every}
 use Rattle.week.specs.Rules.{bit_of, tie_word}
-use Rattle.week.specs.Tables.{Week, lots, pair_rules}
+use Rattle.week.specs.Tables.{Week, lots, lent, pair_rules}
 use Rattle.repair.specs.Repair.{is_lost}
+use Rattle.repair.specs.Found.{lots_of}
+use Rattle.repair.specs.declared.Case.{Case as HeldCase}
+use Rattle.room.specs.declared.Partial.{Partial}
 use Rattle.parts.specs.Part.{placed, unplaced, Extends}
 use Rattle.cuts.specs.Cut.{mended_on}
 use Rattle.cuts.specs.Hopes.{Forward}
 use Rattle.cuts.specs.Moves.{lands, has_to}
 use Rattle.cuts.specs.Reasons.{asked, Struck, Later, Exclusive, Spent}
 use Rattle.mend.specs.Sets.{SetOf}
+use Rattle.mend.specs.declared.Moves.{Moves}
 
 -- lot p is placed and not decided, and clashes where it stands with lot x in slot v
 unfoldable pub driven : ℕ → List ℕ → List ℕ → List ℕ → ℕ → ℕ → ℕ → Bool
@@ -47,3 +51,15 @@ pub record Roomed (W : Week) (s words groups : List ℕ) : Type 0 where
 abbrev pub Tells : Week → List ℕ → List ℕ → List ℕ → Bool → Type 0
 Tells W s A m true = mended_on (pair_rules W) (asked W s A) (placed 16 s) ≡ true
 Tells W s A m false = (u : List ℕ) → Later W s A u → Extends (lots W) 16 m u → ⊥
+
+-- As the code holds them
+
+-- the moves m for the case c
+abbrev pub MovingBy : HeldCase → Moves → Type 0
+MovingBy c m = Moving (lent c.week) c.order.now (lots_of c.lost) m.slots m.gone.0 m.held.0 m.forced.0 m.left
+
+-- `at` is of the case's week and order, and its words and groups are what the test of room is told
+pub record RoomedBy (c : HeldCase) (at : Partial) : Type 0 where
+  pub week : lent at.week ≡ lent c.week
+  pub order : at.order.now ≡ c.order.now
+  pub roomed : Roomed (lent c.week) c.order.now at.words.now at.groups.now

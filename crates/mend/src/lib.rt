@@ -1,59 +1,142 @@
 // Whether the placed lots of a partial order have a repair for a loss. The lots that have to move are kept as a set and decided one after the other; a lot is
-// decided once its new slot is fixed. A slot over 15 means that a lot is not placed, or not decided. A set of lots is a number: bit p says that lot p is in it.
+// decided once its new slot is fixed. A slot over 15 means that a lot is not placed, or not decided.
 #![tactic(auto)]
 
-ghost use Rattle.std.specs.Prelude.{◌≡◌, true, false, cond, ◌-◌, ◌^◌, ◌≤◌, ◌<◌};
-ghost use Rattle.std.specs.Int.Bits.{bit_or};
-ghost use Rattle.week.specs.Tables.{week};
+ghost use Rattle.std.specs.Prelude.{◌≡◌, true, false, cond, is_ok, IfSome, bit_and, bit_or, ◌-◌, ◌^◌, ◌≤◌, ◌<◌, eqb};
+ghost use Rattle.std.specs.Int.Count.{ones};
+ghost use Rattle.week.specs.Tables.{lent};
 ghost use Rattle.repair.specs.Found.{lots_of};
 ghost use Rattle.repair.specs.Repair.{is_lost};
-ghost use Rattle.mend.specs.Sets.{has, SetOf, minus};
 ghost use Rattle.cuts.specs.Reasons.{Struck, Judges};
-ghost use Rattle.mend.specs.Mend.{driven, stuck, Opens, Moving, Roomed, Tells};
+ghost use Rattle.mend.specs.Sets.{has, SetOf, minus};
+ghost use Rattle.mend.specs.Mend.{driven, stuck, Opens, Roomed, Tells, MovingBy, RoomedBy};
 
-use repair::Lost;
-use week::{Lot, Numbers, Slot};
+use repair::{Case, Lost};
+use room::Partial;
+use std::ops::{BitAnd, BitOr, BitOrAssign};
+use week::{Lot, Rules, Slot};
 
-// Whether the placed lots have a repair. `met` are lots that the search for it met, a hint for why there is none: any set is right.
+// A set of lots: bit p says whether lot p is in it.
+#[derive(Clone, Copy, Debug, PartialEq, Eq)]
+pub struct LotSet(pub u32);
+
+impl LotSet {
+    // The set of one lot.
+    fn only(p: Lot) -> LotSet
+        requires { p.0 < 24 }
+        ensures { result.0 ≡ 2 ^ p.0 }
+    {
+        LotSet(1 << p.0)
+    }
+
+    // Whether a lot is in the set.
+    pub fn has(self, p: Lot) -> bool
+        ensures { result ≡ has self.0 p.0 }
+    {
+        p.0 < 32 && (self.0 >> p.0) % 2 == 1
+    }
+
+    // Whether no lot is in the set.
+    fn is_empty(self) -> bool
+        ensures { result ≡ eqb self.0 0 }
+    {
+        self.0 == 0
+    }
+
+    // How many lots the set has.
+    fn len(self) -> u32
+        ensures { result ≡ ones self.0 }
+    {
+        self.0.count_ones()
+    }
+
+    // The lowest lot of a set that has one.
+    #[tactic(auto, using(crate::proofs::Sets::lowest_has))]
+    fn lowest(self) -> Lot
+        requires { 0 < self.0 }
+        ensures { has self.0 result.0 ≡ true }
+    {
+        Lot(self.0.trailing_zeros() as u8)
+    }
+
+    // The lots of the set that are not in another.
+    #[tactic(auto, unfolding(crate::specs::Sets::minus))]
+    fn without(self, out: LotSet) -> LotSet
+        ensures { result.0 ≡ minus self.0 out.0 }
+    {
+        LotSet(self.0 ^ (self.0 & out.0))
+    }
+}
+
+impl BitAnd for LotSet {
+    type Output = LotSet;
+
+    ghost bitand_gives = { λ a b r. r.0 ≡ bit_and a.0 b.0 };
+
+    // The lots that are in both sets.
+    fn bitand(self, rhs: LotSet) -> LotSet {
+        LotSet(self.0 & rhs.0)
+    }
+}
+
+impl BitOr for LotSet {
+    type Output = LotSet;
+
+    ghost bitor_gives = { λ a b r. r.0 ≡ bit_or a.0 b.0 };
+
+    // The lots that are in one set or the other.
+    fn bitor(self, rhs: LotSet) -> LotSet {
+        LotSet(self.0 | rhs.0)
+    }
+}
+
+impl BitOrAssign for LotSet {
+    ghost bitor_assign_gives = { λ a b r. r.0 ≡ bit_or a.0 b.0 };
+
+    // Puts the lots of another set in.
+    fn bitor_assign(&mut self, rhs: LotSet) {
+        *self = *self | rhs;
+    }
+}
+
+// The set of the first n lots that pass a test.
+fn set_of<F: Fn(Lot) -> bool>(n: u32, test: F) -> LotSet
+    requires few { n ≤ 24 }
+    requires asks { F.IsAlwaysCallable test }
+    ensures low { result.0 < 2 ^ n }
+    ensures each { (p : Lot) → p.0 < n → F.post test p (has result.0 p.0) }
+{
+    let mut set = LotSet(0);
+    for p in 0..n as u8 {
+        if test(Lot(p)) {
+            set |= LotSet::only(Lot(p));
+        }
+    }
+    set
+}
+
+// What is decided of a repair: the new slots of the decided lots, and the sets of the lots that are lost, that may not leave and that have to move;
+// `left` more lots may move.
 #[derive(Clone, Copy)]
-pub struct Mended {
-    pub is: bool,
-    pub met: u32,
-}
-
-// The lots of one set that are not in another.
-fn without(set: u32, out: u32) -> u32
-    ensures { result ≡ minus set out }
-{
-    set ^ (set & out)
-}
-
-// The set of one lot.
-fn only(p: Lot) -> u32
-    requires { p.0 < 24 }
-    ensures { result ≡ 2 ^ p.0 }
-{
-    1 << p.0
-}
-
-// The lowest lot of a set that has one.
-fn lowest(set: u32) -> Lot
-    requires { 0 < set }
-    ensures { has set result.0 ≡ true }
-{
-    Lot(u32::trailing_zeros(set) as u8)
+struct Moves {
+    slots: [u8; 24],
+    gone: LotSet,
+    held: LotSet,
+    forced: LotSet,
+    left: u32,
 }
 
 // The lot to decide next, one that has to move: a lost one first. Any choice is right: this one makes the search short.
-fn next_lot(gone: u32, forced: u32) -> Lot
-    requires { 0 < forced }
-    ensures { has forced result.0 ≡ true }
+#[tactic(auto, using(crate::proofs::Sets::part_has))]
+fn next_lot(gone: LotSet, forced: LotSet) -> Lot
+    requires { 0 < forced.0 }
+    ensures { has forced.0 result.0 ≡ true }
 {
     let first = forced & gone;
-    if first != 0 {
-        return lowest(first);
+    if first.is_empty() {
+        return forced.lowest();
     }
-    lowest(forced)
+    first.lowest()
 }
 
 // How many more lots may move once lot x does, where `left` may before: a lost lot is not counted.
@@ -61,245 +144,137 @@ fn left_after(lost: Lost, x: Lot, left: u32) -> u32
     requires { is_lost (lots_of lost) x.0 ≡ false → 0 < left }
     ensures { result ≡ cond (is_lost (lots_of lost) x.0) left (left - 1) }
 {
-    if repair::is_lost(lost, x) {
+    if lost.has(x) {
         return left;
     }
     left - 1
 }
 
 // Whether a lot is placed and not decided, and clashes where it stands with lot x in slot v.
-fn is_driven(n: u32, ties: &[u16], order: &[u8], m: &[u8], x: Lot, v: Slot, p: Lot) -> bool
-    ensures { result ≡ driven n ties.now order.now m.now x.0 v.0 p.0 }
+#[tactic(auto, unfolding(crate::specs::Mend::driven, week::specs::Rules::together))]
+fn is_driven(rules: &Rules<'_>, order: &[u8], slots: &[u8], x: Lot, v: Slot, p: Lot) -> bool
+    ensures { result ≡ driven rules.now.lots rules.now.ties.now order.now slots.now x.0 v.0 p.0 }
 {
     let w = week::slot_in(order, p);
-    if 16 <= w.0 {
-        return false;
-    }
-    if week::slot_in(m, p).0 < 16 {
-        return false;
-    }
-    !week::may_stand(n, ties, x, v, p, w)
+    w.0 < 16 && 16 <= week::slot_in(slots, p).0 && !rules.may_stand(x, v, p, w)
 }
 
-// The placed lots, not yet decided, that clash with lot x in slot v.
-fn clash_set(n: u32, ties: &[u16], order: &[u8], m: &[u8], x: Lot, v: Slot) -> u32
-    requires { n ≤ 24 }
-    ensures { SetOf n (driven n ties.now order.now m.now x.0 v.0) result }
+// The placed lots, not yet decided, that clash with lot x in slot v. Most of the search's time goes here: the rules and the order are
+// looked up once, and not for each lot.
+fn driven_set(case: &Case<'_>, slots: &[u8], x: Lot, v: Slot) -> LotSet
+    requires { case.now.week.numbers.n ≤ 24 }
+    ensures { SetOf case.now.week.numbers.n (driven case.now.week.numbers.n case.now.week.ties.now case.now.order.now slots.now x.0 v.0) result.0 }
 {
-    let mut set: u32 = 0;
-    let mut p: u8 = 0;
-    while (p as u32) < n {
-        if is_driven(n, ties, order, m, x, v, Lot(p)) {
-            set = set | only(Lot(p));
-        }
-        p += 1;
-    }
-    set
+    let rules = case.week.rules();
+    let order = case.order;
+    set_of(rules.lots, |p| is_driven(&rules, order, slots, x, v, p))
 }
 
 // Whether a lot is placed and may not leave: its slot is not in its give word.
-fn is_stuck(give: &[u16], order: &[u8], p: Lot) -> bool
-    ensures { result ≡ stuck give.now order.now p.0 }
+#[tactic(auto, unfolding(crate::specs::Mend::stuck))]
+fn is_stuck(case: &Case<'_>, p: Lot) -> bool
+    ensures { result ≡ stuck case.now.week.give.now case.now.order.now p.0 }
 {
-    let w = week::slot_in(order, p);
-    if 16 <= w.0 {
-        return false;
-    }
-    !week::bit(week::word_of(give, p), w)
-}
-
-// The placed lots that may not leave.
-fn held_set(n: u32, give: &[u16], order: &[u8]) -> u32
-    requires { n ≤ 24 }
-    ensures { SetOf n (stuck give.now order.now) result }
-{
-    let mut set: u32 = 0;
-    let mut p: u8 = 0;
-    while (p as u32) < n {
-        if is_stuck(give, order, Lot(p)) {
-            set = set | only(Lot(p));
-        }
-        p += 1;
-    }
-    set
-}
-
-// The lost lots.
-fn gone_set(lost: Lost) -> u32
-    requires { (lost.0.0 < 24) × (lost.1.0 < 24) }
-    ensures { result ≡ bit_or (2 ^ lost.0.0) (2 ^ lost.1.0) }
-{
-    let first = lost.0;
-    let last = lost.1;
-    only(first) | only(last)
+    let w = week::slot_in(case.order, p);
+    w.0 < 16 && !week::bit(week::word_of(case.week.give, p), w)
 }
 
 // The slots of lot x's domain in which it clashes with no decided lot.
-fn open_word(n: u32, domain: &[u16], ties: &[u16], m: &[u8], x: Lot) -> u16
-    requires { n ≤ 24 }
-    ensures { Opens n domain.now ties.now m.now x.0 n result }
+fn open_word(case: &Case<'_>, slots: &[u8], x: Lot) -> u16
+    requires { case.now.week.numbers.n ≤ 24 }
+    ensures { Opens case.now.week.numbers.n case.now.week.domain.now case.now.week.ties.now slots.now x.0 case.now.week.numbers.n result }
 {
-    let mut own = week::word_of(domain, x);
-    let mut q: u8 = 0;
-    while (q as u32) < n {
-        let w = week::slot_in(m, Lot(q));
+    let rules = case.week.rules();
+    let mut own = week::word_of(rules.domain, x);
+    for q in 0..rules.lots as u8 {
+        let w = week::slot_in(slots, Lot(q));
         if w.0 < 16 {
-            own = own & week::tie_word(n, ties, Lot(q), w, x);
+            own &= rules.tie_word(Lot(q), w, x);
         }
-        q += 1;
     }
     own
 }
 
-// Whether the placed lots have a repair for the lost ones, with the moves m: the lots that have to move, `forced`, are decided one after the other.
-fn mends(
-    numbers: Numbers,
-    domain: &[u16],
-    loss: &[u16],
-    give: &[u16],
-    ties: &[u16],
-    order: &[u8],
-    words: &[u16],
-    groups: &[u8],
-    tight: bool,
-    lost: Lost,
-    m: [u8; 24],
-    gone: u32,
-    held: u32,
-    forced: u32,
-    left: u32,
-) -> Mended
-    requires { Moving (week numbers domain.now loss.now give.now ties.now) order.now (lots_of lost) m gone held forced left × (tight ≡ true → Roomed (week numbers domain.now loss.now give.now ties.now) order.now words.now groups.now) }
-    ensures { Tells (week numbers domain.now loss.now give.now ties.now) order.now (lots_of lost) m result.is }
+// Whether the placed lots have a repair for the lost ones, with these moves, that leaves the other lots room where `at` asks for it: the lots that have to
+// move are decided one after the other.
+fn mends(case: &Case<'_>, at: Option<&Partial<'_>>, moves: &Moves) -> Result<(), LotSet>
+    requires moving { MovingBy case.now moves.now }
+    requires room { IfSome at (λ p. RoomedBy case.now p.now) }
+    ensures { Tells (lent case.now.week) case.now.order.now (lots_of case.now.lost) moves.now.slots (is_ok result) }
 {
-    let others = without(forced, gone);
-    let stopped = others & held;
-    if stopped != 0 {
-        return Mended {
-            is: false,
-            met: stopped,
+    let others = moves.forced.without(moves.gone);
+    let stopped = others & moves.held;
+    if !stopped.is_empty() {
+        return Err(stopped);
+    }
+    if moves.left < others.len() {
+        return Err(moves.forced);
+    }
+    if moves.forced.is_empty() {
+        return match at {
+            Some(at) if !at.has_room(&moves.slots, moves.left) => Err(LotSet(0)),
+            _ => Ok(()),
         };
     }
-    if left < u32::count_ones(others) {
-        return Mended {
-            is: false,
-            met: forced,
-        };
-    }
-    if forced == 0 {
-        if !tight {
-            return Mended { is: true, met: 0 };
-        }
-        if room::has_room(numbers.n, ties, order, words, groups, &m, left) {
-            return Mended { is: true, met: 0 };
-        }
-        return Mended { is: false, met: 0 };
-    }
-    let x = next_lot(gone, forced);
-    let at = x.0;
-    let own = open_word(numbers.n, domain, ties, &m, x);
-    let after = left_after(lost, x, left);
-    let here = only(x);
-    let rest = without(forced, here);
+    let x = next_lot(moves.gone, moves.forced);
+    let own = open_word(case, &moves.slots, x);
+    let left = left_after(case.lost, x, moves.left);
+    let here = LotSet::only(x);
+    let rest = moves.forced.without(here);
     let mut met = here;
-    let mut v: u8 = 0;
-    while v < 16 {
-        let to = v;
-        v += 1;
-        if !week::bit(own, Slot(to)) {
+    for v in 0..16 {
+        let to = Slot(v);
+        if !week::bit(own, to) || !case.may_go(x, to) {
             continue;
         }
-        if !repair::may_go(numbers, give, order, lost, x, Slot(to)) {
-            continue;
-        }
-        let mut moved = m;
-        moved[at as usize] = to;
-        let driven = clash_set(numbers.n, ties, order, &moved, x, Slot(to));
-        let found = mends(
-            numbers,
-            domain,
-            loss,
-            give,
-            ties,
-            order,
-            words,
-            groups,
-            tight,
-            lost,
-            moved,
-            gone,
-            held,
-            rest | driven,
-            after,
-        );
-        if found.is {
-            return found;
-        }
-        met = met | found.met;
+        // The slots are set in their place: a second copy of them at each try costs a twentieth of the time.
+        let mut next = Moves { left, ..*moves };
+        next.slots[usize::from(x.0)] = v;
+        let driven = driven_set(case, &next.slots, x, to);
+        next.forced = rest | driven;
+        let Err(more) = mends(case, at, &next) else {
+            return Ok(());
+        };
+        met |= more;
     }
-    Mended { is: false, met }
+    Err(met)
 }
 
-// Whether the placed lots have a repair for a loss that breaks them, one that leaves the other lots room where `tight`.
-fn repair_by(
-    numbers: Numbers,
-    domain: &[u16],
-    loss: &[u16],
-    give: &[u16],
-    ties: &[u16],
-    order: &[u8],
-    words: &[u16],
-    groups: &[u8],
-    tight: bool,
-    lost: Lost,
-) -> Mended
-    requires { Struck (week numbers domain.now loss.now give.now ties.now) order.now (lots_of lost) × (tight ≡ true → Roomed (week numbers domain.now loss.now give.now ties.now) order.now words.now groups.now) }
-    ensures { Judges (week numbers domain.now loss.now give.now ties.now) order.now (lots_of lost) result.is }
+// Whether the placed lots have a repair for a loss that breaks them, one that leaves the other lots room where `at` asks for it.
+fn repair_by(case: &Case<'_>, at: Option<&Partial<'_>>) -> Result<(), LotSet>
+    requires struck { Struck (lent case.now.week) case.now.order.now (lots_of case.now.lost) }
+    requires room { IfSome at (λ p. RoomedBy case.now p.now) }
+    ensures { Judges (lent case.now.week) case.now.order.now (lots_of case.now.lost) (is_ok result) }
 {
-    let held = held_set(numbers.n, give, order);
-    let gone = gone_set(lost);
-    mends(
-        numbers, domain, loss, give, ties, order, words, groups, tight, lost, [16; 24], gone, held,
-        gone, numbers.b,
-    )
+    let gone = LotSet::only(case.lost.0) | LotSet::only(case.lost.1);
+    let start = Moves {
+        slots: [16; 24],
+        gone,
+        held: set_of(case.week.numbers.n, |p| is_stuck(case, p)),
+        forced: gone,
+        left: case.week.numbers.b,
+    };
+    mends(case, at, &start)
 }
 
-// Whether the placed lots have a repair for a loss that breaks them; if not, no super solution extends the order. Room is not asked:
-// the words of the domains and groups that say nothing will do.
-pub fn has_repair(
-    numbers: Numbers,
-    domain: &[u16],
-    loss: &[u16],
-    give: &[u16],
-    ties: &[u16],
-    order: &[u8],
-    lost: Lost,
-) -> Mended
-    requires { Struck (week numbers domain.now loss.now give.now ties.now) order.now (lots_of lost) }
-    ensures { Judges (week numbers domain.now loss.now give.now ties.now) order.now (lots_of lost) result.is }
+// Whether the placed lots have a repair for a loss that breaks them; if not, no super solution extends the order, and the lots that the search for a
+// repair met are a hint why: any set is right. Room is not asked.
+pub fn has_repair(case: &Case<'_>) -> Result<(), LotSet>
+    requires { Struck (lent case.now.week) case.now.order.now (lots_of case.now.lost) }
+    ensures { Judges (lent case.now.week) case.now.order.now (lots_of case.now.lost) (is_ok result) }
 {
-    let groups = [0u8; 24];
-    repair_by(
-        numbers, domain, loss, give, ties, order, domain, &groups, false, lost,
-    )
+    repair_by(case, None)
 }
 
-// The same, of repairs that leave the other lots room: `words` has the slots left to each lot, and no two lots of one group may stand in one slot.
-pub fn has_roomy_repair(
-    numbers: Numbers,
-    domain: &[u16],
-    loss: &[u16],
-    give: &[u16],
-    ties: &[u16],
-    order: &[u8],
-    words: &[u16],
-    groups: &[u8],
-    lost: Lost,
-) -> Mended
-    requires { Struck (week numbers domain.now loss.now give.now ties.now) order.now (lots_of lost) × Roomed (week numbers domain.now loss.now give.now ties.now) order.now words.now groups.now }
-    ensures { Judges (week numbers domain.now loss.now give.now ties.now) order.now (lots_of lost) result.is }
+// The same, of repairs that leave the other lots room.
+pub fn has_roomy_repair(at: &Partial<'_>, lost: Lost) -> Result<(), LotSet>
+    requires { Struck (lent at.now.week) at.now.order.now (lots_of lost) × Roomed (lent at.now.week) at.now.order.now at.now.words.now at.now.groups.now }
+    ensures { Judges (lent at.now.week) at.now.order.now (lots_of lost) (is_ok result) }
 {
-    repair_by(
-        numbers, domain, loss, give, ties, order, words, groups, true, lost,
-    )
+    let case = Case {
+        week: at.week,
+        order: at.order,
+        lost,
+    };
+    repair_by(&case, Some(at))
 }

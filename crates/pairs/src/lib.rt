@@ -7,7 +7,7 @@ ghost use Rattle.pairs.specs.Pairs.{pair_at, low, high, pair_number};
 use week::Lot;
 
 // Two different lots, the lower one first.
-#[derive(Clone, Copy)]
+#[derive(Clone, Copy, Debug, PartialEq, Eq)]
 pub struct Pair {
     pub low: Lot,
     pub high: Lot,
@@ -21,8 +21,7 @@ pub fn pair_at(n: u32, r: usize) -> Pair
 {
     let lots = n as usize;
     let mut left = r;
-    let mut p: usize = 0;
-    while p + 1 < lots {
+    for p in 0..lots {
         let after = lots - p - 1;
         if left < after {
             return Pair {
@@ -31,7 +30,6 @@ pub fn pair_at(n: u32, r: usize) -> Pair
             };
         }
         left -= after;
-        p += 1;
     }
     Pair {
         low: Lot(0),
@@ -45,7 +43,7 @@ pub fn pair_number(n: u32, p: Lot, q: Lot) -> usize
     ensures { result ≡ pair_number n p.0 q.0 }
 {
     let lots = n as usize;
-    let low = p.0 as usize;
-    let high = q.0 as usize;
+    let low = usize::from(p.0);
+    let high = usize::from(q.0);
     low * (lots + lots - low - 1) / 2 + (high - low - 1)
 }

@@ -9,7 +9,8 @@ fn main(rt: HostRuntime) -> io::Result<()> {
     let mut file = [0u8; 9217];
     let size = input::read_full(&mut rt.stdin(), &mut file)?;
     let mut text = [0u8; 25600];
-    let printed = print::plan_text(&file[..size], &mut text);
-    let end = printed.length;
-    rt.write_all(&text[..end])
+    match print::plan_text(&file[..size], &mut text) {
+        Ok(end) => rt.write_all(&text[..end]),
+        Err(_) => Ok(()),
+    }
 }

@@ -1,6 +1,6 @@
 -- From what read answered to the text of a file: its refusal, or the week that its buffers hold.
 -- Assumes nothing.
-use mathlib.Core.Path.{◌≡◌, refl, sym, ◌∙◌, ap}
+use mathlib.Core.Path.{◌≡◌, refl, sym, ◌∙◌, ap, subst}
 use mathlib.Core.Bool.{Bool, true, false, cond}
 use mathlib.Core.List.{List, [], ◌++◌}
 use mathlib.Core.Option.{Option, none, some}
@@ -15,16 +15,18 @@ use Rattle.lex.specs.First.{is_found, or_old}
 use Rattle.lex.specs.Lists.{padded}
 use Rattle.lex.proofs.Lists.{padded_length, padded_take}
 use Rattle.week.specs.declared.Numbers.{Numbers}
-use Rattle.week.specs.Refusal.{unless}
+use Rattle.std.specs.Prelude.{Result, Ok}
+use Rattle.week.specs.declared.Refusal.{Refusal}
+use Rattle.week.specs.Refusal.{unless, answer}
 use Rattle.week.specs.Tables.{Week, week, lots, refusal}
 use Rattle.week.proofs.Tables.{accepted, runs_on, halts}
 use Rattle.robust.specs.Super.{first_super, table_of}
 use Rattle.solve.proofs.Service.{super_long}
-use Rattle.block.specs.Reading.{week_in, file_refusal, Given, given, given_week, read_of}
+use Rattle.block.specs.Reading.{week_in, file_refusal, Given, given, given_week, read_of, numbers_of}
 use Rattle.block.proofs.Checks.{Buffers, buffers_good}
 use Rattle.block.proofs.Given.{week_fine, read_file}
 use Rattle.block.proofs.Services.{read_answer, read_gives}
-use Rattle.print.specs.Text.{plan_answer, plan_text, plan_lines, refused_line, room, printed_answer, printed_length, printed_buffer, Printed}
+use Rattle.print.specs.Text.{plan_answer, plan_text, plan_lines, refused_line, room, printed_answer, printed_length, printed_buffer, text_length, Printed}
 use Rattle.print.specs.Put.{Put, week_text}
 use Rattle.print.proofs.Put.{put_more}
 use Rattle.print.proofs.Sizes.{refused_most, table_most}
@@ -123,6 +125,35 @@ module _ (F d l g t : List ℕ) (lent : Buffers (length d) (length l) (length g)
     pub fine_read : refusal (week N (take N.n d') (take N.n l') (take N.n g') (take (N.n * N.n * 16) t')) ≡ 0
     fine_read = ap refusal cut.is ∙ accepted_file
 
+-- Read answered with the numbers N, from buffers of the right lengths
+
+module _ (F d l g t : List ℕ) {r : Result Numbers Refusal} {N : Numbers} {d' l' g' t' : List ℕ} (is : r ≡ Ok N) (read : given (answer r) (numbers_of r) d' l' g' t' ≡ read_of F d l g t) (lent : Buffers (length d) (length l) (length g) (length t)) where
+  done : given 0 N d' l' g' t' ≡ read_of F d l g t
+  done = rw is at read
+
+  pub taken : Cut (week_in F) N d' l' g' t'
+  taken = cut F d l g t lent done refl
+
+  pub fine_taken : refusal (week N (take N.n d') (take N.n l') (take N.n g') (take (N.n * N.n * 16) t')) ≡ 0
+  fine_taken = fine_read F d l g t lent done refl
+
+  pub text_taken : plan_text F ≡ week_text (week N (take N.n d') (take N.n l') (take N.n g') (take (N.n * N.n * 16) t'))
+  text_taken = text_read F d l g t lent done refl
+
+-- each part that is cut off lies within its buffer
+module _ {W : Week} {N : Numbers} {d l g t : List ℕ} (k : Cut W N d l g t) where
+  pub domain_within : N.n ≤ length d
+  domain_within = omega (arith, k.few, k.domain)
+
+  pub loss_within : N.n ≤ length l
+  loss_within = omega (arith, k.few, k.loss)
+
+  pub give_within : N.n ≤ length g
+  give_within = omega (arith, k.few, k.give)
+
+  pub ties_within : N.n * N.n * 16 ≤ length t
+  ties_within = omega (arith, words_most N.n k.few, k.ties)
+
 -- No text is longer than its buffer
 
 week_most : (W : Week) → refusal W ≡ 0 → length (week_text W) ≤ room
@@ -172,3 +203,7 @@ module _ (F out : List ℕ) where
       go : (b : Bool) → cond b (length (plan_text F)) 0 ≤ length (cond b (padded room (plan_text F)) out)
       go true = rw (padded_length room (plan_text F) (text_most F)) (text_most F)
       go false = omega arith
+
+  -- so it does where printing answers how long it is
+  pub text_within : {r : Result ℕ Refusal} {n k : ℕ} {o : List ℕ} → r ≡ Ok n → Printed F out k (text_length r) o → n ≤ length o
+  text_within {o = o} is p = subst (λ (m : ℕ). m ≤ length o) (ap text_length is) (printed_within p)

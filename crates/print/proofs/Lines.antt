@@ -27,35 +27,13 @@ abbrev ones : ℕ → List ℕ
 ones x = (48 + x % 10) ∷ []
 
 module _ (x : ℕ) where
-  field_one : x < 10 → field x ≡ (32 ∷ []) ++ ((48 + x) ∷ [])
+  pub field_one : x < 10 → field x ≡ (32 ∷ []) ++ ((48 + x) ∷ [])
   unfolding field digits
   field_one h = rw (lt-ltb x 10 h)
 
-  field_two : 10 ≤ x → field x ≡ (32 ∷ []) ++ (tens x ++ ones x)
+  pub field_two : 10 ≤ x → field x ≡ (32 ∷ []) ++ (tens x ++ ones x)
   unfolding field digits
   field_two h = rw (le-ltb x 10 h)
-
-  pub space_fits : {l : List ℕ} {at : ℕ} → Fits (field x) at l → Fits (32 ∷ []) at l
-  unfolding field
-  space_fits h = fits_first (32 ∷ []) (digits x) h
-
-  pub digit_fits : {l m : List ℕ} {at e : ℕ} → x < 10 → Fits (field x) at l → Put (32 ∷ []) at l e m → Fits ((48 + x) ∷ []) e m
-  digit_fits n h a = fits_rest (fits_as (field_one n) h) a
-
-  both_fit : {l m : List ℕ} {at e : ℕ} → 10 ≤ x → Fits (field x) at l → Put (32 ∷ []) at l e m → Fits (tens x ++ ones x) e m
-  both_fit n h a = fits_rest (fits_as (field_two n) h) a
-
-  pub tens_fit : {l m : List ℕ} {at e : ℕ} → 10 ≤ x → Fits (field x) at l → Put (32 ∷ []) at l e m → Fits (tens x) e m
-  tens_fit n h a = fits_first (tens x) (ones x) (both_fit n h a)
-
-  pub ones_fit : {l m k : List ℕ} {at e f : ℕ} → 10 ≤ x → Fits (field x) at l → Put (32 ∷ []) at l e m → Put (tens x) e m f k → Fits (ones x) f k
-  ones_fit n h a b = fits_rest (both_fit n h a) b
-
-  pub digit_put : {l m k : List ℕ} {at e f : ℕ} → x < 10 → Put (32 ∷ []) at l e m → Put ((48 + x) ∷ []) e m f k → Put (field x) at l f k
-  digit_put n a b = put_as (field_one n) (put_more a b)
-
-  pub digits_put : {l m k j : List ℕ} {at e f g : ℕ} → 10 ≤ x → Put (32 ∷ []) at l e m → Put (tens x) e m f k → Put (ones x) f k g j → Put (field x) at l g j
-  digits_put n a b c = put_as (field_two n) (put_more a (put_more b c))
 
 -- The fields of a loss: its first lot, and its last where that is another
 

@@ -6,8 +6,9 @@ use Prim.Native.Nat.{ℕ, zero, suc, ◌+◌, ◌-◌, ◌≤◌, ◌<◌}
 use native.Mathlib.Omega.{arith}
 use native.Mathlib.Decide.{dec_lt}
 use native.Mathlib.Numerals.{add-one}
-use lib.ListN.{length, get_or, set, take, replicate, length-append, length-take, length-set, replicate-append-replicate}
-use lib.Seq.{take-suc-set}
+use lib.ListN.{length, get_or, set, take, drop, replicate, length-append, length-drop, length-replicate, length-take, length-set, replicate-append-replicate}
+use lib.Seq.{take-suc-set, length-take-le, take_all}
+use Rattle.std.proofs.Math.ListN.{drop_of_length-le}
 use Rattle.print.specs.Text.{field, fields}
 use Rattle.print.specs.Put.{Fits, Put, pieces}
 
@@ -118,18 +119,22 @@ module _ {l m : List ℕ} {at e : ℕ} (s : List ℕ) (i : ℕ) where
   pub fields_put : i ≡ length s → Put (pieces (field_at s) i) at l e m → Put (fields s) at l e m
   fields_put h a = put_as (sym (ap (pieces (field_at s)) h ∙ fields_each s)) a
 
--- Zeros behind a text: the bytes from `at` to i are cleared
+-- What stands behind a text, as long as it is: nothing is behind that
+pub rest_size : (e : ℕ) (m : List ℕ) → e ≤ length m → length (take (length m - e) (drop e m)) ≡ length m - e
+rest_size e m h = length-take-le (length m - e) (drop e m) (omega (arith, length-drop e m))
 
-module _ (at : ℕ) (l : List ℕ) where
-  pub clear_none : Put (replicate (at - at) 0) at l at l
-  clear_none =
-      let z : at - at ≡ 0 = omega arith in
-      rw z (put_none at l)
+pub rest_none : (e : ℕ) (m : List ℕ) → drop (length m - e) (drop e m) ≡ []
+rest_none e m = drop_of_length-le (drop e m) (omega (arith, length-drop e m))
 
-  pub clear_more : (i : ℕ) (m : List ℕ) → at ≤ i → i < length m → Put (replicate (i - at) 0) at l i m → Put (replicate (i + 1 - at) 0) at l (i + 1) (set m i 0)
-  clear_more i m h n a =
-      let z : i + 1 - at ≡ i - at + 1 = omega arith in
-      rw (z, ← replicate-append-replicate {A = ℕ} (i - at) 1 0) (put_more a (put_one 0 i m n))
-
-  pub clear_end : (i : ℕ) (m : List ℕ) → i ≡ length l → Put (replicate (i - at) 0) at l i m → Put (replicate (length l - at) 0) at l (length l) m
-  clear_end i m h a = rw h at a
+-- Zeros behind a text: what stands behind its end is cleared
+pub cleared : (e : ℕ) (m f z : List ℕ) → e ≤ length m → f ≡ replicate (length m - e) 0 → z ≡ [] → Put (replicate (length m - e) 0) e m (length m) (take e m ++ (f ++ z))
+cleared e m f z h a b =
+    let l : length f ≡ length m - e = ap length a ∙ length-replicate (length m - e) 0 in
+    let g : f ++ z ≡ replicate (length m - e) 0 = rw b (append-nil f ∙ a) in
+    let t : length (take e m) ≡ e = length-take-le e m h in
+    let n : length (take e m ++ (f ++ z)) ≡ length m = length-append (take e m) (f ++ z) ∙ rw (t, g) (omega (arith, length-replicate {A = ℕ} (length m - e) 0)) in
+    record {
+      ends = omega (arith, length-replicate {A = ℕ} (length m - e) 0);
+      stands = take_all (length m) (take e m ++ (f ++ z)) (omega (arith, n)) ∙ ap (λ (t : List ℕ). take e m ++ t) g;
+      size = n;
+    }

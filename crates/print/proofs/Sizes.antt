@@ -16,6 +16,8 @@ use Rattle.repair.specs.Break.{single, singles, lost_sets, row_count, row_at}
 use Rattle.repair.proofs.Numbering.{count_two}
 use Rattle.repair.proofs.Rows.{count_none, count_one}
 use Rattle.robust.proofs.Rows.{every_row, set_fewer, count_most}
+use Rattle.week.specs.Tables.{Week, lots, refusal}
+use Rattle.week.proofs.Tables.{accepted}
 use Rattle.print.specs.Text.{plan_word, lost_word, colon_word, refused_word, newline, digits, field, fields, plan_line, lost_line, refused_line, room}
 use Rattle.print.specs.Put.{Fits, pieces, table_line, table_text}
 
@@ -119,3 +121,9 @@ module _ (n a : ℕ) (order table : List ℕ) (few : n ≤ 24) (at_most : a ≤ 
 
   pub table_fits : (out : List ℕ) → length out ≡ room → Fits (table_text n a order table) 0 out
   table_fits out h = record { room = let m = table_most in omega arith }
+
+-- The table of an accepted week fits its buffer
+pub area_small : (W : Week) → refusal W ≡ 0 → (rows : ℕ) → rows ≡ row_count (lots W) W.numbers.a → rows * lots W ≤ 7200
+area_small W fine rows e =
+    let l = (accepted W fine).limits in
+    rw e (area_most (lots W) l.few W.numbers.a l.breaks)

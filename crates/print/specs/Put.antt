@@ -5,6 +5,7 @@ use Rattle.lex.specs.First.{is_found, or_old}
 use Rattle.week.specs.Tables.{Week}
 use Rattle.repair.specs.Break.{lost_sets, row_count, row_at}
 use Rattle.robust.specs.Super.{first_super}
+use Rattle.print.specs.declared.Page.{Page}
 use Rattle.print.specs.Text.{plan_line, lost_line, refused_line, plan_lines}
 
 -- a piece has room in the buffer from `at` on
@@ -16,6 +17,11 @@ pub record Put (piece : List ℕ) (at : ℕ) (before : List ℕ) (end : ℕ) (af
   pub ends : end ≡ at + length piece
   pub stands : take end after ≡ take at before ++ piece
   pub size : length after ≡ length before
+
+-- a piece was put behind the text of a page, which still is in the same buffer
+pub record Wrote (piece : List ℕ) (old new : Page) : Type 0 where
+  pub put : Put piece old.end old.out.now new.end new.out.now
+  pub same : new.out.ghost_name ≡ old.out.ghost_name
 
 -- f 0, f 1 .. f (k - 1), one behind the other
 unfoldable pub pieces : (ℕ → List ℕ) → ℕ → List ℕ

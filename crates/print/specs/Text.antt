@@ -1,9 +1,10 @@
 -- The text that the printing program writes for a block file, byte by byte (ASCII).
 -- Assumes nothing.
-use Rattle.std.specs.Prelude.{◌≡◌, cond, ℕ, ◌+◌, ◌/◌, ◌%◌, eqb, ltb, length}
+use Rattle.std.specs.Prelude.{◌≡◌, cond, ℕ, ◌+◌, ◌/◌, ◌%◌, eqb, ltb, length, Result, Ok, Err}
 use mathlib.Core.List.{List, [], ◌∷◌, ◌++◌, flat_map}
 use Rattle.lex.specs.First.{is_found, or_old}
 use Rattle.lex.specs.Lists.{padded}
+use Rattle.week.specs.declared.Refusal.{Refusal}
 use Rattle.week.specs.Refusal.{unless, or_else}
 use Rattle.week.specs.Tables.{Week}
 use Rattle.robust.specs.Super.{row_sets, first_super, row_of}
@@ -80,6 +81,11 @@ printed_length F out = cond (eqb (length out) room) (length (plan_text F)) 0
 -- the buffer afterwards: the text, and 0 behind it
 unfoldable pub printed_buffer : List ℕ → List ℕ → List ℕ
 printed_buffer F out = cond (eqb (length out) room) (padded room (plan_text F)) out
+
+-- how many bytes printing answers are text: none where it refuses
+abbrev pub text_length : Result ℕ Refusal → ℕ
+text_length (Ok n) = n
+text_length (Err r) = 0
 
 -- printing the file F into the buffer `out` answers k with length r and leaves o
 pub record Printed (F out : List ℕ) (k r : ℕ) (o : List ℕ) : Type 0 where

@@ -1,254 +1,183 @@
 // The text of the printing program: the plan of the week in a block file, or the file's refusal.
 #![tactic(auto)]
 
-ghost use Rattle.std.specs.Prelude.{◌≡◌, [], ◌∷◌, ◌*◌, ◌-◌, ◌≤◌, length, replicate};
-ghost use Rattle.week.specs.Tables.{week, refusal};
+ghost use Rattle.std.specs.Prelude.{◌≡◌, ◌*◌, ◌≤◌, length};
+ghost use Rattle.week.specs.Refusal.{answer};
+ghost use Rattle.week.specs.Tables.{lent, refusal};
 ghost use Rattle.repair.specs.Break.{row_count};
 ghost use Rattle.repair.specs.Found.{lots_of};
-ghost use Rattle.print.specs.Text.{field, fields, plan_line, lost_line, refused_line, plan_text, room, Printed};
-ghost use Rattle.print.specs.Put.{Fits, Put, pieces, table_line, table_text, week_text};
+ghost use Rattle.print.specs.Text.{field, fields, plan_line, lost_line, refused_line, plan_text, room, text_length, Printed};
+ghost use Rattle.print.specs.Put.{Fits, Wrote, pieces, table_line, table_text, week_text};
 
 use repair::Lost;
-use week::Numbers;
+use week::{Refusal, Week};
 
-// One byte goes into the buffer. Like every function here that puts something, it answers where the next piece goes.
-fn put_byte(byte: u8, at: usize, out: &mut [u8]) -> usize
-    requires { Fits (byte ∷ []) at out.old }
-    ensures { Put (byte ∷ []) at out.old result out.new }
-{
-    out[at] = byte;
-    at + 1
+// A page: a lent buffer, and how many of its bytes are text. Whatever is put goes behind the text.
+#[derive(Drop)]
+struct Page<'a> {
+    out: &'a mut [u8],
+    end: usize,
 }
 
-// A word goes into the buffer.
-fn put_word(word: &[u8], at: usize, out: &mut [u8]) -> usize
-    requires { Fits word.now at out.old }
-    ensures { Put word.now at out.old result out.new }
-{
-    let mut end = at;
-    let mut i: usize = 0;
-    while i < word.len() {
-        end = put_byte(word[i], end, out);
-        i += 1;
+impl Page<'_> {
+    // A word.
+    fn word(&mut self, word: &[u8])
+        requires { Fits word.now self.old.end self.old.out.now }
+        ensures { Wrote word.now self.old self.new }
+    {
+        let end = self.end + word.len();
+        self.out[self.end..end].copy_from_slice(word);
+        self.end = end;
     }
-    end
-}
 
-// A space and a number of one or two digits; 48 is the digit 0.
-fn put_field(x: u32, at: usize, out: &mut [u8]) -> usize
-    requires { Fits (field x) at out.old }
-    ensures { Put (field x) at out.old result out.new }
-{
-    let first = put_byte(32, at, out);
-    if x < 10 {
-        return put_byte((48 + x) as u8, first, out);
+    // A space and a number of one or two digits.
+    fn field(&mut self, x: u32)
+        requires { Fits (field x) self.old.end self.old.out.now }
+        ensures { Wrote (field x) self.old self.new }
+    {
+        if x < 10 {
+            return self.word(&[b' ', b'0' + x as u8]);
+        }
+        self.word(&[b' ', b'0' + (x / 10 % 10) as u8, b'0' + (x % 10) as u8]);
     }
-    let second = put_byte((48 + x / 10 % 10) as u8, first, out);
-    put_byte((48 + x % 10) as u8, second, out)
-}
 
-// The slots of an order or a row, each with the space before it.
-fn put_fields(slots: &[u8], at: usize, out: &mut [u8]) -> usize
-    requires { Fits (fields slots.now) at out.old }
-    ensures { Put (fields slots.now) at out.old result out.new }
-{
-    let mut end = at;
-    let mut i: usize = 0;
-    while i < slots.len() {
-        end = put_field(slots[i] as u32, end, out);
-        i += 1;
+    // The slots of an order or a row, each with the space before it.
+    fn fields(&mut self, slots: &[u8])
+        requires { Fits (fields slots.now) self.old.end self.old.out.now }
+        ensures { Wrote (fields slots.now) self.old self.new }
+    {
+        for &slot in slots {
+            self.field(u32::from(slot));
+        }
     }
-    end
-}
 
-// The lots of a loss, each with the space before it.
-fn put_lots(lost: Lost, at: usize, out: &mut [u8]) -> usize
-    requires { Fits (fields (lots_of lost)) at out.old }
-    ensures { Put (fields (lots_of lost)) at out.old result out.new }
-{
-    let first = lost.0;
-    let last = lost.1;
-    let end = put_field(first.0 as u32, at, out);
-    if first.0 == last.0 {
-        return end;
+    // The lots of a loss, each with the space before it.
+    fn lots(&mut self, lost: Lost)
+        requires { Fits (fields (lots_of lost)) self.old.end self.old.out.now }
+        ensures { Wrote (fields (lots_of lost)) self.old self.new }
+    {
+        let first = lost.0;
+        let last = lost.1;
+        self.field(u32::from(first.0));
+        if first.0 != last.0 {
+            self.field(u32::from(last.0));
+        }
     }
-    put_field(last.0 as u32, end, out)
-}
 
-// The line of the order.
-fn put_plan_line(order: &[u8], at: usize, out: &mut [u8]) -> usize
-    requires { Fits (plan_line order.now) at out.old }
-    ensures { Put (plan_line order.now) at out.old result out.new }
-{
-    let slots = put_word(b"plan", at, out);
-    let end = put_fields(order, slots, out);
-    put_word(b"\n", end, out)
-}
-
-// The line of a row.
-fn put_lost_line(lost: Lost, row: &[u8], at: usize, out: &mut [u8]) -> usize
-    requires { Fits (lost_line (lots_of lost) row.now) at out.old }
-    ensures { Put (lost_line (lots_of lost) row.now) at out.old result out.new }
-{
-    let lots = put_word(b"lost", at, out);
-    let colon = put_lots(lost, lots, out);
-    let slots = put_word(b" :", colon, out);
-    let end = put_fields(row, slots, out);
-    put_word(b"\n", end, out)
-}
-
-// The line of a refusal.
-fn put_refused(number: u32, at: usize, out: &mut [u8]) -> usize
-    requires { Fits (refused_line number) at out.old }
-    ensures { Put (refused_line number) at out.old result out.new }
-{
-    let word = put_word(b"refused", at, out);
-    let end = put_field(number, word, out);
-    put_word(b"\n", end, out)
-}
-
-// The lines of the rows, in row order.
-fn put_rows(n: u32, a: u32, table: &[u8], at: usize, out: &mut [u8]) -> usize
-    requires { (1 ≤ n) × (n ≤ 24) × (a ≤ 2) × (length table.now ≡ row_count n a * n) × Fits (pieces (table_line n a table.now) (row_count n a)) at out.old }
-    ensures { Put (pieces (table_line n a table.now) (row_count n a)) at out.old result out.new }
-{
-    let lots = n as usize;
-    let rows = repair::row_count(n, a);
-    let mut end = at;
-    let mut i: usize = 0;
-    while i < rows {
-        let from = i * lots;
-        let to = from + lots;
-        end = put_lost_line(robust::lost_at(n, i), &table[from..to], end, out);
-        i += 1;
+    // The line of the order.
+    fn plan_line(&mut self, order: &[u8])
+        requires { Fits (plan_line order.now) self.old.end self.old.out.now }
+        ensures { Wrote (plan_line order.now) self.old self.new }
+    {
+        self.word(b"plan");
+        self.fields(order);
+        self.word(b"\n");
     }
-    end
-}
 
-// The plan of an order and its table.
-fn put_table(n: u32, a: u32, order: &[u8], table: &[u8], out: &mut [u8]) -> usize
-    requires { (1 ≤ n) × (n ≤ 24) × (a ≤ 2) × (length table.now ≡ row_count n a * n) × Fits (table_text n a order.now table.now) 0 out.old }
-    ensures { Put (table_text n a order.now table.now) 0 out.old result out.new }
-{
-    let end = put_plan_line(order, 0, out);
-    put_rows(n, a, table, end, out)
-}
-
-// The plan of a week that is accepted, or refusal 5. The order and its table go through lent buffers of their lengths.
-fn put_solved(
-    numbers: Numbers,
-    domain: &[u16],
-    loss: &[u16],
-    give: &[u16],
-    ties: &[u16],
-    order: &mut [u8],
-    table: &mut [u8],
-    out: &mut [u8],
-) -> usize
-    requires { (refusal (week numbers domain.now loss.now give.now ties.now) ≡ 0) × (length order.old ≡ numbers.n) × (length table.old ≡ row_count numbers.n numbers.a * numbers.n) × (length out.old ≡ room) }
-    ensures { Put (week_text (week numbers domain.now loss.now give.now ties.now)) 0 out.old result out.new }
-{
-    let answer = solve::solve(numbers, domain, loss, give, ties, order, table);
-    if answer != 0 {
-        return put_refused(answer, 0, out);
+    // The line of a row.
+    fn lost_line(&mut self, lost: Lost, row: &[u8])
+        requires { Fits (lost_line (lots_of lost) row.now) self.old.end self.old.out.now }
+        ensures { Wrote (lost_line (lots_of lost) row.now) self.old self.new }
+    {
+        self.word(b"lost");
+        self.lots(lost);
+        self.word(b" :");
+        self.fields(row);
+        self.word(b"\n");
     }
-    put_table(numbers.n, numbers.a, order, table, out)
-}
 
-// The same with buffers of its own.
-fn put_week(
-    numbers: Numbers,
-    domain: &[u16],
-    loss: &[u16],
-    give: &[u16],
-    ties: &[u16],
-    out: &mut [u8],
-) -> usize
-    requires { (refusal (week numbers domain.now loss.now give.now ties.now) ≡ 0) × (length out.old ≡ room) }
-    ensures { Put (week_text (week numbers domain.now loss.now give.now ties.now)) 0 out.old result out.new }
-{
-    let lots = numbers.n as usize;
-    let size = repair::row_count(numbers.n, numbers.a) * lots;
-    let mut order = [0u8; 24];
-    let mut table = [0u8; 7200];
-    put_solved(
-        numbers,
-        domain,
-        loss,
-        give,
-        ties,
-        &mut order[..lots],
-        &mut table[..size],
-        out,
-    )
-}
-
-// The plan of the week in a file, or the file's refusal. The week goes through lent buffers of read's lengths.
-fn put_file(
-    file: &[u8],
-    domain: &mut [u16],
-    loss: &mut [u16],
-    give: &mut [u16],
-    ties: &mut [u16],
-    out: &mut [u8],
-) -> usize
-    requires { (length domain.old ≡ 24) × (length loss.old ≡ 24) × (length give.old ≡ 24) × (length ties.old ≡ 9216) × (length out.old ≡ room) }
-    ensures { Put (plan_text file.now) 0 out.old result out.new }
-{
-    let reading = block::read(file, domain, loss, give, ties);
-    if reading.answer != 0 {
-        return put_refused(reading.answer, 0, out);
+    // The line of a refusal.
+    fn refused(&mut self, number: u32)
+        requires { Fits (refused_line number) self.old.end self.old.out.now }
+        ensures { Wrote (refused_line number) self.old self.new }
+    {
+        self.word(b"refused");
+        self.field(number);
+        self.word(b"\n");
     }
-    let lots = reading.numbers.n as usize;
-    let words = lots * lots * 16;
-    put_week(
-        reading.numbers,
-        &domain[..lots],
-        &loss[..lots],
-        &give[..lots],
-        &ties[..words],
-        out,
-    )
-}
 
-// Everything behind the text becomes 0.
-fn clear_from(at: usize, out: &mut [u8])
-    requires { at ≤ length out.old }
-    ensures { Put (replicate (length out.old - at) 0) at out.old (length out.old) out.new }
-{
-    let mut i = at;
-    while i < out.len() {
-        out[i] = 0;
-        i += 1;
+    // The lines of the rows, in row order.
+    fn rows(&mut self, n: u32, a: u32, table: &[u8])
+        requires { (1 ≤ n) × (n ≤ 24) × (a ≤ 2) × (length table.now ≡ row_count n a * n) × Fits (pieces (table_line n a table.now) (row_count n a)) self.old.end self.old.out.now }
+        ensures { Wrote (pieces (table_line n a table.now) (row_count n a)) self.old self.new }
+    {
+        let lots = n as usize;
+        for i in 0..repair::row_count(n, a) {
+            let from = i * lots;
+            let to = from + lots;
+            self.lost_line(robust::lost_at(n, i), &table[from..to]);
+        }
+    }
+
+    // The plan of an order and its table.
+    fn table(&mut self, n: u32, a: u32, order: &[u8], table: &[u8])
+        requires { (1 ≤ n) × (n ≤ 24) × (a ≤ 2) × (length table.now ≡ row_count n a * n) × Fits (table_text n a order.now table.now) self.old.end self.old.out.now }
+        ensures { Wrote (table_text n a order.now table.now) self.old self.new }
+    {
+        self.plan_line(order);
+        self.rows(n, a, table);
+    }
+
+    // The plan of a week that is accepted, or refusal 5, on an empty page. The order and its table go through lent buffers of their
+    // lengths.
+    fn solved(&mut self, week: &Week<'_>, order: &mut [u8], table: &mut [u8])
+        requires { (refusal (lent week.now) ≡ 0) × (length order.old ≡ week.now.numbers.n) × (length table.old ≡ row_count week.now.numbers.n week.now.numbers.a * week.now.numbers.n) × (self.old.end ≡ 0) × (length self.old.out.now ≡ room) }
+        ensures { Wrote (week_text (lent week.now)) self.old self.new }
+    {
+        match solve::solve(week, order, table) {
+            Ok(()) => self.table(week.numbers.n, week.numbers.a, order, table),
+            Err(none) => self.refused(none.number()),
+        }
+    }
+
+    // The same with buffers of its own.
+    fn week(&mut self, week: &Week<'_>)
+        requires { (refusal (lent week.now) ≡ 0) × (self.old.end ≡ 0) × (length self.old.out.now ≡ room) }
+        ensures { Wrote (week_text (lent week.now)) self.old self.new }
+    {
+        let lots = week.numbers.n as usize;
+        let size = repair::row_count(week.numbers.n, week.numbers.a) * lots;
+        let mut order = [0u8; 24];
+        let mut table = [0u8; 7200];
+        self.solved(week, &mut order[..lots], &mut table[..size]);
+    }
+
+    // The plan of the week in a file, or the file's refusal, on an empty page.
+    fn file(&mut self, file: &[u8])
+        requires { (self.old.end ≡ 0) × (length self.old.out.now ≡ room) }
+        ensures { Wrote (plan_text file.now) self.old self.new }
+    {
+        let mut domain = [0u16; 24];
+        let mut loss = [0u16; 24];
+        let mut give = [0u16; 24];
+        let mut ties = [0u16; 9216];
+        match block::read(file, &mut domain, &mut loss, &mut give, &mut ties) {
+            Ok(numbers) => {
+                let lots = numbers.n as usize;
+                self.week(&Week {
+                    numbers,
+                    domain: &domain[..lots],
+                    loss: &loss[..lots],
+                    give: &give[..lots],
+                    ties: &ties[..lots * lots * 16],
+                });
+            }
+            Err(refusal) => self.refused(refusal.number()),
+        }
     }
 }
 
-// What printing gives: 0 and how many bytes of the buffer are text; 2 and 0 where the buffer has a wrong length.
-#[derive(Clone, Copy)]
-pub struct Text {
-    pub answer: u32,
-    pub length: usize,
-}
-
-// The text that is printed for a block file, into a lent buffer of 25,600 bytes, 0 behind it. A buffer of another length is refused with
-// 2, and stays as it is; a file that is refused has a text that says so.
-pub fn plan_text(file: &[u8], out: &mut [u8]) -> Text
-    ensures { Printed file.now out.old result.answer result.length out.new }
+// The text that is printed for a block file, into a lent buffer of 25,600 bytes, 0 behind it: how many bytes of it are text. A buffer of
+// another length is refused with 2, and stays as it is; a file that is refused has a text that says so.
+pub fn plan_text(file: &[u8], out: &mut [u8]) -> Result<usize, Refusal>
+    ensures { Printed file.now out.old (answer result) (text_length result) out.new }
 {
     if out.len() != 25600 {
-        return Text {
-            answer: 2,
-            length: 0,
-        };
+        return Err(Refusal::Lengths);
     }
-    let mut domain = [0u16; 24];
-    let mut loss = [0u16; 24];
-    let mut give = [0u16; 24];
-    let mut ties = [0u16; 9216];
-    let end = put_file(file, &mut domain, &mut loss, &mut give, &mut ties, out);
-    clear_from(end, out);
-    Text {
-        answer: 0,
-        length: end,
-    }
+    let mut page = Page { out, end: 0 };
+    page.file(file);
+    let end = page.end;
+    page.out[end..].fill(0);
+    Ok(end)
 }

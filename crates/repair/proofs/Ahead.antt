@@ -10,13 +10,13 @@ use native.Mathlib.Nat.{le_refl, eq-or-lt_of_le}
 use lib.Dec.{leb, ltb, eqb}
 use lib.ListN.{get_or, length, take}
 use lib.Seq.{get_or-append_seam, get_or-take, length-take-le}
-use borrow.Author.Tests.{ltb-true, lt-ltb, le-ltb, leb-true, le-leb, lt-leb, eqb-true, eq-eqb, ne_eqb, not-true, not-false}
+use borrow.Author.Tests.{ltb-true, le-ltb, leb-true, le-leb, lt-leb, eqb-true, not-true, not-false}
 use Rattle.lex.specs.Every.{imp, every, one_if, count}
 use Rattle.lex.specs.First.{Passes, always}
 use Rattle.lex.proofs.Every.{both, and_left, and_right, or_other, not_both, imp_in, every_true, every_false, every_cong, every_step, count_cong, count_step, Snoc, Local, every_snoc, snoc_closed, snoc_link, snoc_and, snoc_before}
 use Rattle.lex.proofs.Search.{Space}
-use Rattle.week.specs.Rules.{Rules, bit_of, tie_word, together, beside, fits}
-use Rattle.week.proofs.Rules.{fits_beside}
+use Rattle.week.specs.Rules.{Rules, bit_of, beside, fits}
+use Rattle.week.proofs.Standing.{fits_beside}
 use Rattle.repair.specs.Repair.{Case, is_lost, yields, helps, may_go, moves, goes_at, moves_at, mends_half, mends_at, stays, stays_at, must_move, may_move, few_ahead, ahead, ahead_at, leads, leads_at}
 use Rattle.repair.proofs.Mends.{half_snoc, half_low, half_nil, half_parts, at_take}
 
@@ -179,35 +179,11 @@ module _ (R : Rules) (C : Case) where
     below = λ l e. half_low R C l (leads_half l e);
   }
 
--- A lot that stays, and one that must move, test by test
-
-module _ (R : Rules) (C : Case) (q u x : ℕ) where
-  -- w is the slot in which lot u stands
-  module _ (w : ℕ) (stood : w ≡ get_or C.stands u 0) where
-    pub stays_same : w ≡ x → true ≡ stays R C q u x
-    unfolding stays
-    stays_same e = rw (← stood, eq-eqb w x e)
-
-    pub stays_other : (w ≡ x → ⊥) → (z : ℕ) → z ≡ get_or C.stands q 0 → bit_of (tie_word R.lots R.ties q z u) x ≡ stays R C q u x
-    unfolding stays together
-    stays_other e z f = rw (← stood, ne_eqb w x e, f)
+-- A lot that stays where r has the lot before it
 
 pub stays_here : (R : Rules) (C : Case) (r : List ℕ) (q u x : ℕ) (t : Bool) → x ≡ get_or r u 0 → t ≡ stays R C q u x → t ≡ stays_at R C r q u
 unfolding stays_at
 stays_here R C r q u x t e f = f ∙ ap (stays R C q u) e
-
-module _ (R : Rules) (C : Case) (r : List ℕ) (p v q : ℕ) where
-  pub must_lost : is_lost C.lost q ≡ true → false ≡ must_move R C r p v q
-  unfolding must_move
-  must_lost e = rw (e, and-false)
-
-  pub must_clash : p < q → is_lost C.lost q ≡ false → stays R C q p v ≡ false → true ≡ must_move R C r p v q
-  unfolding must_move
-  must_clash h e f = rw (lt-ltb p q h, e, f)
-
-  pub must_behind : p < q → is_lost C.lost q ≡ false → stays R C q p v ≡ true → (t : Bool) → t ≡ every (stays_at R C r q) p → not t ≡ must_move R C r p v q
-  unfolding must_move
-  must_behind h e f t g = rw (lt-ltb p q h, e, f, g)
 
 -- The later lots, lot after lot: `moved` lots up to p move, and with those of the lots before q that must, they are `all`
 
@@ -272,31 +248,12 @@ run_done {R} {C} {r} {p} {v} {moved} {all} {q} s k h =
     let m = ap (count (must_move R C r p v)) e in
     sym (both (ap (every (may_move R C r p v)) (sym e) ∙ s.may) (rw (← k) (le-leb (moved + count (must_move R C r p v) R.lots) C.numbers.b (omega (arith, s.counted, s.most)))))
 
--- Slot v for lot p, test by test
+-- Slot v for lot p
 
 module _ (R : Rules) (C : Case) (r : List ℕ) (p v : ℕ) where
-  pub lead_not : mends_at R C r p v ≡ false → false ≡ leads_at R C r p v
-  unfolding leads_at
-  lead_not e = rw e
-
   pub lead_few : mends_at R C r p v ≡ true → count (moves_at C r) p + one_if (moves C p v) ≤ C.numbers.b
   unfolding mends_at
   lead_few e =
       leb-true _ _
       (and_right (may_go C p v) (leb (count (moves_at C r) p + one_if (moves C p v)) C.numbers.b)
       (and_right (fits R r p v) (may_go C p v && leb (count (moves_at C r) p + one_if (moves C p v)) C.numbers.b) e))
-
-  module _ (w : ℕ) (stood : w ≡ get_or C.stands p 0) (e : mends_at R C r p v ≡ true) where
-    pub lead_stays : w ≡ v → true ≡ leads_at R C r p v
-    unfolding leads_at ahead
-    lead_stays f = rw (e, ← stood, eq-eqb w v f)
-
-    pub lead_leaves : (w ≡ v → ⊥) → few_ahead R C r p v ≡ leads_at R C r p v
-    unfolding leads_at ahead
-    lead_leaves f = rw (e, ← stood, ne_eqb w v f)
-
-pub one_yes : (moved : ℕ) (more : Bool) → more ≡ true → moved + 1 ≡ moved + one_if more
-one_yes moved more e = rw e
-
-pub one_no : (moved : ℕ) (more : Bool) → more ≡ false → moved ≡ moved + one_if more
-one_no moved more e = rw (e) (omega arith)

@@ -3,36 +3,17 @@
 use mathlib.Core.Path.{◌≡◌, refl, sym}
 use mathlib.Core.Bool.{Bool, true, false, cond}
 use mathlib.Core.List.{List, [], ◌∷◌}
-use Prim.Native.Nat.{ℕ, ◌+◌, ◌-◌, ◌≤◌, ◌<◌}
+use Prim.Native.Nat.{ℕ, ◌-◌, ◌≤◌, ◌<◌}
 use native.Mathlib.Omega.{arith}
 use lib.Dec.{eqb}
 use lib.ListN.{length, get_or}
-use borrow.Author.Tests.{leb-true, le-leb, ltb-true, lt-ltb, le-ltb, eqb-true, eq-eqb, ne_eqb}
+use borrow.Author.Tests.{leb-true, ltb-true, eqb-true, eq-eqb, ne_eqb}
 use Rattle.lex.specs.Every.{every}
-use Rattle.lex.proofs.Every.{each, each_all, false_of, every_at}
+use Rattle.lex.proofs.Every.{each, every_at}
 use Rattle.repair.specs.declared.Lost.{Lost}
 use Rattle.pairs.specs.Pairs.{pair}
 use Rattle.repair.specs.Break.{single, lot_below, lot_ascends, lost_tests, lost_ok, LostList}
 use Rattle.repair.specs.Found.{lots_of}
-
--- One lot of a list, as the code reads it
-
-module _ (A : List ℕ) (i x : ℕ) (is : x ≡ get_or A i 0) where
-  pub below_no : (n : ℕ) → n ≤ x → lot_below n A i ≡ false
-  unfolding lot_below
-  below_no n h = rw (← is) (le-ltb x n h)
-
-  pub below_yes : (n : ℕ) → x < n → lot_below n A i ≡ true
-  unfolding lot_below
-  below_yes n h = rw (← is) (lt-ltb x n h)
-
-  pub ascends_no : (y : ℕ) → y ≡ get_or A (i + 1) 0 → y ≤ x → lot_ascends A i ≡ false
-  unfolding lot_ascends
-  ascends_no y e h = rw (← is, ← e) (le-ltb x y h)
-
-  pub ascends_yes : (y : ℕ) → y ≡ get_or A (i + 1) 0 → x < y → lot_ascends A i ≡ true
-  unfolding lot_ascends
-  ascends_yes y e h = rw (← is, ← e) (lt-ltb x y h)
 
 -- The tests of a list of lost lots
 
@@ -48,13 +29,6 @@ module _ (n least most : ℕ) (A : List ℕ) where
   lost_read e =
       let t = each (lost_tests n least most A) e in
       record { some = leb-true least (length A) t.0; few = leb-true (length A) most t.1.0; below = t.1.1.0; ascends = t.1.1.1.0 }
-
-  pub lost_good : LostLots → true ≡ lost_ok n least most A
-  unfolding lost_ok
-  lost_good l = sym (each_all (lost_tests n least most A) (le-leb _ _ l.some, (le-leb _ _ l.few, (l.below, (l.ascends, tt)))))
-
-  pub lost_bad : (LostLots → ⊥) → false ≡ lost_ok n least most A
-  lost_bad h = sym (false_of (lost_ok n least most A) (λ e. h (lost_read e)))
 
 -- one or two lots that pass are a loss, and each is below n
 module _ (n least most : ℕ) (A : List ℕ) (few : most ≤ 2) (some : 1 ≤ length A) (passed : lost_ok n least most A ≡ true) where

@@ -1,14 +1,13 @@
 -- Laws of repairs: the parts of `mends`, that its beginnings mend too, and what the repair chosen is.
 -- Assumes nothing.
 use mathlib.Core.Path.{◌≡◌, refl, sym, ◌∙◌, ap, ap₂}
-use mathlib.Core.Bool.{Bool, true, false, ◌&&◌, ◌||◌, not, cond, true≢false, or-false, or_self, and-false, and-true}
+use mathlib.Core.Bool.{Bool, true, false, ◌&&◌, ◌||◌, cond, true≢false, or-false, or_self, and-false}
 use mathlib.Core.List.{List, [], ◌∷◌, ◌++◌}
 use mathlib.Core.Option.{Option, none, some}
 use Prim.Native.Nat.{ℕ, ◌+◌, ◌≤◌, ◌<◌}
 use native.Mathlib.Omega.{arith}
-use native.Mathlib.Nat.{le_refl, add-zero}
-use native.Mathlib.Numerals.{add-one}
-use lib.Dec.{leb, ltb, eqb, leb-zero}
+use native.Mathlib.Nat.{le_refl}
+use lib.Dec.{leb, eqb, leb-zero}
 use lib.ListN.{get_or, length, take}
 use lib.Seq.{get_or-append_seam, get_or-take, length-take-le}
 use borrow.Author.Tests.{leb-true, le-leb, eqb-true}
@@ -21,7 +20,7 @@ use Rattle.lex.proofs.Every.{both, and_left, and_right, every_at, count_cong, Sn
 use Rattle.lex.proofs.First.{first_meets, first_is, first_same, first_some}
 use Rattle.lex.proofs.Lists.{padded_wide, padded_take}
 use Rattle.week.specs.Rules.{Rules, keeps, fits, lot_fits, keeps_half}
-use Rattle.week.proofs.Rules.{keeps_closed, keeps_below, fits_cong, half_snoc as keeps-snoc, half_below, Symmetric, keeps_half_lem}
+use Rattle.week.proofs.Standing.{keeps_closed, keeps_below, fits_cong, half_snoc as keeps-snoc, half_below, Symmetric, keeps_half_lem}
 use Rattle.repair.specs.declared.Lost.{Lost}
 use Rattle.pairs.specs.Pairs.{pair}
 use Rattle.repair.specs.Break.{single}
@@ -121,10 +120,6 @@ module _ (C : Case) (p v : ℕ) where
     unfolding may_go
     go_other g k e f = rw (← stood, ← k, e, f)
 
-    pub moves_other : is_lost C.lost p ≡ false → not (eqb w v) ≡ moves C p v
-    unfolding moves
-    moves_other e = rw (← stood, e)
-
   pub moves_lost : is_lost C.lost p ≡ true → false ≡ moves C p v
   unfolding moves
   moves_lost e = rw e
@@ -134,46 +129,9 @@ pub goes_here : (C : Case) (r : List ℕ) (p v : ℕ) (t : Bool) → v ≡ get_o
 unfolding goes_at
 goes_here C r p v t e f = f ∙ ap (may_go C p) e
 
--- How many lots move
-
-pub few_more : (moved most : ℕ) (more : Bool) → more ≡ true → ltb moved most ≡ leb (moved + one_if more) most
-few_more moved most more e = rw (e, add-one) refl
-
-pub few_same : (moved most : ℕ) (more : Bool) → more ≡ false → leb moved most ≡ leb (moved + one_if more) most
-few_same moved most more e = rw (e, add-zero)
-
--- Slot v for lot p, test by test
-
-module _ (R : Rules) (C : Case) (r : List ℕ) (p v : ℕ) where
-  pub at_no_go : may_go C p v ≡ false → false ≡ mends_at R C r p v
-  unfolding mends_at
-  at_no_go e = rw (e, and-false)
-
-  -- `moved` lots before p move, and lot p itself moves if `more`
-  module _ (moved : ℕ) (more : Bool) (counted : moved ≡ count (moves_at C r) p) (itself : more ≡ moves C p v) where
-    pub at_many : leb (moved + one_if more) C.numbers.b ≡ false → false ≡ mends_at R C r p v
-    unfolding mends_at
-    at_many e = rw (← counted, ← itself, e, and-false, and-false)
-
-    pub at_fits : may_go C p v ≡ true → leb (moved + one_if more) C.numbers.b ≡ true → fits R r p v ≡ mends_at R C r p v
-    unfolding mends_at
-    at_fits e f = rw (← counted, ← itself, e, f, and-true)
-
--- A whole order, test by test
+-- A whole order
 
 module _ (R : Rules) (C : Case) (r : List ℕ) where
-  pub half_not_kept : keeps_half R r ≡ false → false ≡ mends_half R C r
-  unfolding mends_half
-  half_not_kept e = rw e
-
-  pub half_no_go : every (goes_at C r) (length r) ≡ false → false ≡ mends_half R C r
-  unfolding mends_half
-  half_no_go e = rw (e, and-false)
-
-  pub half_counted : (moved : ℕ) → moved ≡ count (moves_at C r) (length r) → keeps_half R r ≡ true → every (goes_at C r) (length r) ≡ true → leb moved C.numbers.b ≡ mends_half R C r
-  unfolding mends_half
-  half_counted moved e f g = rw (f, g, e)
-
   -- a repair, each pair of lots looked at once
   pub mends_half_lem : Symmetric R → length r ≡ R.lots → mends R C r ≡ mends_half R C r
   unfolding mends mends_half

@@ -8,8 +8,12 @@ use native.Mathlib.Omega.{arith}
 use native.Mathlib.Nat.{mul-le-mul, mul-le-mul_right, suc-mul}
 use lib.Dec.{eqb, leb}
 use lib.ListN.{length, get_or, take, drop}
-use borrow.Author.Tests.{leb-true, eqb-true, eq-eqb, ne_eqb}
+use borrow.Author.Tests.{leb-true, eqb-true, eq-eqb, ne_eqb, true-eqb, false-eqb}
+use Rattle.std.specs.Prelude.{Result}
+use Rattle.std.specs.Result.{is_err}
 use Rattle.lex.proofs.Every.{and_left, and_right, both}
+use Rattle.week.specs.declared.Refusal.{Refusal}
+use Rattle.week.specs.Refusal.{answer}
 use Rattle.week.proofs.Tables.{stops, goes_on, stops_last, goes_off, passed_first, passed_rest, passed_last}
 use Rattle.repair.specs.declared.Lost.{Lost}
 use Rattle.pairs.specs.Pairs.{pair, pair_number}
@@ -17,6 +21,7 @@ use Rattle.repair.specs.Break.{single, singles, lost_sets, lost_ok, LostList, ro
 use Rattle.repair.specs.Found.{lots_of}
 use Rattle.repair.specs.Service.{row_numbers, row_lengths, row_answer, row_part}
 use Rattle.repair.proofs.Break.{lost_read, lost_list, lost_below, lots_first, lots_last, lots_single, lots_pair}
+use Rattle.repair.proofs.Refused.{answer_good, answer_bad}
 use Rattle.repair.proofs.Numbering.{length_singles, count_two, number_single, number_pair, pair_below}
 
 -- How many rows
@@ -177,3 +182,40 @@ module _ (n a : ℕ) (order table A : List ℕ) where
         first_last (p ∷ []) l = omega arith
         first_last (p ∷ q ∷ []) l = let h = l.ascends (omega arith) in omega arith
         first_last (p ∷ q ∷ r ∷ A) l = absurd (omega (arith, l.few))
+
+-- The same from what the code has: the refusal r, and whether a lot is lost
+module _ (n a : ℕ) (order table A : List ℕ) {B : Type 0} (r : Result B Refusal) (is : answer r ≡ row_answer n a order table A) where
+  pub run_none : true ≡ is_err r → [] ≡ row_part n a order table A
+  run_none e = shows_none n a order table A (answer r) is (answer_bad r e)
+
+  module _ (good : false ≡ is_err r) where
+    fine : row_answer n a order table A ≡ 0
+    fine = sym is ∙ answer_good r good
+
+    pub run_order : true ≡ eqb (length A) 0 → order ≡ row_part n a order table A
+    run_order e = shows_order n a order table A fine (true-eqb (length A) 0 e)
+
+    module _ (filled : false ≡ eqb (length A) 0) where
+      some : 1 ≤ length A
+      some = let e = false-eqb (length A) 0 filled in omega arith
+
+      pub run_lost : LostList A
+      run_lost = lost_list n 0 a A (fine_numbers n a order table A fine).1.1 some (fine_lost n a order table A fine)
+
+      -- L is the loss, and i its row
+      module _ (L : Lost) (are : lots_of L ≡ A) where
+        pub run_between : (n ≤ 24) × ((L.0.0 ≤ L.1.0) × (L.1.0 < n))
+        run_between = lost_order n a order table A fine some L are
+
+        module _ (i : ℕ) (row : i ≡ row_number n (lots_of L)) where
+          at : i ≡ row_number n A
+          at = row ∙ ap (row_number n) are
+
+          pub run_small : i * n ≤ 14400
+          run_small = ends_small n a order table A fine some i at
+
+          pub run_within : i * n + n ≤ length table
+          run_within = ends_within n a order table A fine some i at
+
+          pub run_shown : (part : List ℕ) → part ≡ take (i * n + n - i * n) (drop (i * n) table) → part ≡ row_part n a order table A
+          run_shown part e = ends_shown n a order table A fine some i at part e

@@ -5,8 +5,9 @@
 ghost use Rattle.std.specs.Prelude.{◌≡◌, [], ◌≤◌, ◌<◌, get_or};
 ghost use Rattle.repair.specs.Break.{lost_sets, breaks, row_count};
 ghost use Rattle.repair.specs.Found.{lots_of};
+ghost use Rattle.week.specs.Rules.{bit_of};
 
-use repair::Lost;
+use repair::{Case, Lost};
 use week::Lot;
 
 // The loss that row i of a repair table stands for: a single lot, or behind those a pair. Inner layers share it: they know the limits.
@@ -19,19 +20,23 @@ pub fn lost_at(n: u32, i: usize) -> Lost
         return Lost(Lot(i as u8), Lot(i as u8));
     }
     let pair = pairs::pair_at(n, i - lots);
-    let low = pair.low;
-    let high = pair.high;
-    Lost(low, high)
+    Lost(pair.low, pair.high)
 }
 
-// Whether each lot of a loss stands in a slot of its loss word.
-pub fn is_break(loss: &[u16], order: &[u8], lost: Lost) -> bool
-    ensures { result ≡ breaks loss.now order.now (lots_of lost) }
+// Whether a lot stands in a slot of its loss word.
+fn may_lose(case: &Case<'_>, p: Lot) -> bool
+    ensures { result ≡ bit_of (get_or case.now.week.loss.now p.0 0) (get_or case.now.order.now p.0 0) }
 {
-    let first = lost.0;
-    let last = lost.1;
-    if !week::bit(week::word_of(loss, first), week::slot_in(order, first)) {
-        return false;
-    }
-    week::bit(week::word_of(loss, last), week::slot_in(order, last))
+    week::bit(
+        week::word_of(case.week.loss, p),
+        week::slot_in(case.order, p),
+    )
+}
+
+// Whether each lost lot stands in a slot of its loss word.
+#[tactic(auto, using(crate::proofs::Rows::breaks_both))]
+pub fn is_break(case: &Case<'_>) -> bool
+    ensures { result ≡ breaks case.now.week.loss.now case.now.order.now (lots_of case.now.lost) }
+{
+    may_lose(case, case.lost.0) && may_lose(case, case.lost.1)
 }

@@ -1,14 +1,14 @@
 -- Groups as the code makes them, lot after lot; and two lots of one group may never stand in one slot. Assumes nothing.
-use mathlib.Core.Path.{◌≡◌, refl, sym, ◌∙◌, ap, ap₂}
-use mathlib.Core.Bool.{Bool, true, false, ◌&&◌, not}
+use mathlib.Core.Path.{◌≡◌, sym, ◌∙◌, ap, ap₂}
+use mathlib.Core.Bool.{true, ◌&&◌, not}
 use mathlib.Core.List.{List}
 use Prim.Native.Nat.{ℕ, ◌+◌, ◌≤◌, ◌<◌}
 use native.Mathlib.Decide.{dec_lt, ℕ_discrete}
 use native.Mathlib.Omega.{arith}
 use lib.Dec.{eqb}
-use lib.ListN.{get_or, set, replicate, length-set}
+use lib.ListN.{get_or, set, length-set}
 use lib.Seq.{get_or-set_same, get_or-set_other}
-use borrow.Author.Tests.{eq-eqb, ne_eqb, not-true}
+use borrow.Author.Tests.{eq-eqb, not-true}
 use Rattle.lex.specs.Every.{imp, every}
 use Rattle.lex.specs.Scan.{scan_from}
 use Rattle.lex.proofs.Every.{and_right, imp_out, every_at, every_cong}
@@ -19,27 +19,6 @@ use Rattle.cuts.specs.Reasons.{Exclusive}
 use Rattle.cuts.proofs.Words.{bit_high}
 use Rattle.room.specs.Grouped.{meet, apart, bears, takes_in, Grouped}
 
--- What the code finds, answer by answer
-
-module _ (n : ℕ) (ties groups : List ℕ) (p g : ℕ) where
-  pub bears_other : (q x : ℕ) → x ≡ get_or groups q 0 → (x ≡ g → ⊥) → true ≡ bears n ties groups p g q
-  unfolding bears
-  bears_other q x e h = rw (← e, ne_eqb x g h)
-
-  pub bears_own : (q x : ℕ) (t : Bool) → x ≡ get_or groups q 0 → x ≡ g → t ≡ apart n ties q p → t ≡ bears n ties groups p g q
-  unfolding bears
-  bears_own q x t e h a = rw (← e, eq-eqb x g h, ← a)
-
-  -- g is no group's number
-  pub takes_other : (x : ℕ) → x ≡ get_or groups g 0 → (x ≡ g → ⊥) → false ≡ takes_in n ties groups p g
-  unfolding takes_in
-  takes_other x e h = rw (← e, ne_eqb x g h)
-
-  -- it is, and t says what its lots do
-  pub takes_own : (x : ℕ) (t : Bool) → x ≡ get_or groups g 0 → x ≡ g → t ≡ every (bears n ties groups p g) p → t ≡ takes_in n ties groups p g
-  unfolding takes_in
-  takes_own x t e h a = rw (← e, eq-eqb x g h, ← a)
-
 -- One lot more
 
 module _ (n : ℕ) (ties : List ℕ) where
@@ -49,9 +28,6 @@ module _ (n : ℕ) (ties : List ℕ) where
   takes_cong a b p g h l =
       ap₂ ◌&&◌ (ap (λ (x : ℕ). eqb x g) (h g l))
       (every_cong (bears n ties a p g) (bears n ties b p g) p (λ q m. ap (λ (x : ℕ). imp (eqb x g) (apart n ties q p)) (h q m)))
-
-  pub grouped_start : Grouped n ties 0 (replicate 24 0)
-  grouped_start = record { size = refl; each = λ p l. absurd (omega arith) }
 
   pub grouped_next : (groups : List ℕ) (p g : ℕ) → p < 24 → Grouped n ties p groups → g ≡ scan_from p (takes_in n ties groups p) 0 → Grouped n ties (p + 1) (set groups p g)
   grouped_next groups p g h c e = record {
@@ -64,9 +40,6 @@ module _ (n : ℕ) (ties : List ℕ) where
     where
       same : (q : ℕ) → q ≤ p → scan_from q (takes_in n ties groups q) 0 ≡ scan_from q (takes_in n ties (set groups p g) q) 0
       same q l = scan_cong q (takes_in n ties groups q) (takes_in n ties (set groups p g) q) 0 (λ j m. takes_cong groups (set groups p g) q j (λ i k. sym (get_or-set_other groups p i g 0 (λ z. omega arith))) m)
-
-  pub grouped_all : (groups : List ℕ) {k m : ℕ} → k ≡ m → Grouped n ties k groups → Grouped n ties m groups
-  grouped_all groups e c = rw e at c
 
 -- What groups are for
 

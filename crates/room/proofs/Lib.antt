@@ -1,5 +1,7 @@
 pub mod Pigeon
 pub mod Grouped
 pub mod Words
-pub mod Room
+pub mod Rooms
+pub mod Finds
+pub mod Slices
 pub mod None

@@ -26,7 +26,7 @@ use Rattle.room.specs.Words.{met_by}
 use Rattle.room.specs.Room.{waits, waiting, room_for, lacks, room_at, room_by, slack_at, slack_by}
 use Rattle.room.proofs.Pigeon.{pigeon, count_apart, count_either, ones_slots}
 use Rattle.room.proofs.Words.{met_bits}
-use Rattle.room.proofs.Room.{union_bit, waits_group, waits_unplaced, slack_over, least_zero}
+use Rattle.room.proofs.Rooms.{union_bit, waits_group, waits_unplaced, slack_over, least_zero}
 
 -- Waiting lots of group g that stand, in an order t that keeps the rules, in slots of their words are at most as many as the slots
 

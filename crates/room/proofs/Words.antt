@@ -1,18 +1,17 @@
 -- Words made one after the other, and what the lots that stand leave of them: of the domains, the forward words. Assumes nothing.
-use mathlib.Core.Path.{◌≡◌, refl, sym, ◌∙◌, ap, ap₂}
+use mathlib.Core.Path.{◌≡◌, sym, ◌∙◌, ap, ap₂}
 use mathlib.Core.Bool.{Bool, true, false, ◌&&◌, cond, and-true, and_assoc}
 use mathlib.Core.List.{List}
 use Prim.Native.Nat.{ℕ, zero, suc, ◌+◌, ◌^◌, ◌≤◌, ◌<◌}
 use native.Mathlib.Decide.{dec_lt, ℕ_discrete}
 use native.Mathlib.Numerals.{add-one}
 use native.Mathlib.Omega.{arith}
-use lib.Bits.{bit_and}
-use lib.ListN.{length, get_or, set, replicate, length-set}
+use lib.ListN.{length, get_or, set, length-set}
 use lib.Seq.{get_or-set_same, get_or-set_other}
 use borrow.Author.Tests.{lt-ltb, le-ltb, eq-eqb, ne_eqb}
 use Rattle.lex.specs.Every.{every}
 use Rattle.week.specs.Rules.{Rules, bit_of, in_domain, tie_word}
-use Rattle.week.proofs.Rules.{Symmetric}
+use Rattle.week.proofs.Standing.{Symmetric}
 use Rattle.week.proofs.Words.{bit_and_lem}
 use Rattle.parts.specs.Part.{placed}
 use Rattle.cuts.specs.Cut.{whole}
@@ -21,21 +20,7 @@ use Rattle.cuts.proofs.Hopes.{suits_self, suits_free, suits_with}
 use Rattle.cuts.proofs.Words.{bit_high, tie_bit}
 use Rattle.room.specs.Words.{met_in, met_word, met_by, Made}
 
--- One lot's word
-
-module _ (n : ℕ) (ties words : List ℕ) (x v p : ℕ) where
-  pub met_own : p ≡ x → get_or words p 0 ≡ met_word n ties words x v p
-  unfolding met_word met_in
-  met_own e = rw (eq-eqb p x e)
-
-  pub met_other : (p ≡ x → ⊥) → bit_and (get_or words p 0) (tie_word n ties x v p) ≡ met_word n ties words x v p
-  unfolding met_word met_in
-  met_other e = rw (ne_eqb p x e)
-
 -- Words made one after the other
-
-pub made_start : (f : ℕ → ℕ) → Made 0 f (replicate 24 0)
-made_start f = record { size = refl; each = λ p l. absurd (omega arith); narrow = λ p l. absurd (omega arith) }
 
 pub made_next : (f : ℕ → ℕ) (words : List ℕ) (p w : ℕ) → p < 24 → Made p f words → w ≡ f p → w < 2 ^ 16 → Made (p + 1) f (set words p w)
 made_next f words p w h m e g = record {
@@ -52,9 +37,6 @@ made_next f words p w h m e g = record {
   where
     inside : p < length words
     inside = omega (arith, m.size)
-
-pub made_all : (f : ℕ → ℕ) (words : List ℕ) {p n : ℕ} → p ≡ n → Made p f words → Made n f words
-made_all f words e m = rw e at m
 
 pub made_same : (n : ℕ) (f g : ℕ → ℕ) (words : List ℕ) → ((p : ℕ) → p < n → f p ≡ g p) → Made n f words → Made n g words
 made_same n f g words h m = record { size = m.size; each = λ p l. m.each p l ∙ h p l; narrow = m.narrow }
@@ -75,9 +57,6 @@ module _ (n : ℕ) (ties words s : List ℕ) where
   pub met_place : (k v : ℕ) (met new : List ℕ) → placed 16 s k ≡ true → v ≡ get_or s k 0 → Made n (met_by n ties words s k) met → Made n (met_word n ties met k v) new → Made n (met_by n ties words s (k + 1)) new
   unfolding met_by met_word
   met_place k v met new e f m a = made_same n (met_word n ties met k v) (met_by n ties words s (k + 1)) new (λ p l. rw (add-one, e, m.each p l, f)) a
-
-  pub met_end : (met : List ℕ) {k : ℕ} → k ≡ n → Made n (met_by n ties words s k) met → Made n (met_by n ties words s n) met
-  met_end met e m = rw e at m
 
 -- What is left of a word
 

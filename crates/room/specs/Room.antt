@@ -5,6 +5,7 @@ use Rattle.std.specs.Int.Count.{ones}
 use Rattle.lex.specs.Every.{every, count}
 use Rattle.parts.specs.Part.{unplaced}
 use Rattle.room.specs.Words.{met_by}
+use Rattle.room.specs.declared.Room.{Room}
 
 -- the slots that any of the k first lots that pass f has in its word
 unfoldable pub union : (ℕ → Bool) → (ℕ → ℕ) → ℕ → ℕ
@@ -22,12 +23,15 @@ waiting s groups k g = count (waits s groups g) k
 unfoldable pub room_for : List ℕ → List ℕ → (ℕ → ℕ) → ℕ → ℕ → ℕ
 room_for s groups word k g = union (waits s groups g) word k
 
+-- no lot and no slot
+abbrev pub no_room : Room
+no_room = record { lots = 0; slots = 0 }
+
 -- both, of the k first lots and of every group, as the code counts them
-pub record Counted (s groups : List ℕ) (word : ℕ → ℕ) (k : ℕ) (lots slots : List ℕ) : Type 0 where
-  pub many : length lots ≡ 24
-  pub wide : length slots ≡ 24
-  pub crowd : (g : ℕ) → g < 24 → get_or lots g 0 ≡ waiting s groups k g
-  pub room : (g : ℕ) → g < 24 → get_or slots g 0 ≡ room_for s groups word k g
+pub record Counted (s groups : List ℕ) (word : ℕ → ℕ) (k : ℕ) (rooms : List Room) : Type 0 where
+  pub size : length rooms ≡ 24
+  pub crowd : (g : ℕ) → g < 24 → (get_or rooms g no_room).lots ≡ waiting s groups k g
+  pub room : (g : ℕ) → g < 24 → (get_or rooms g no_room).slots ≡ room_for s groups word k g
 
 -- how many slots of word w too few there are for c lots
 unfoldable pub lacks : ℕ → ℕ → ℕ

@@ -14,7 +14,7 @@ use Rattle.lex.specs.Every.{every_of}
 use Rattle.lex.proofs.Every.{both, and_left, and_right, false_of, not_both, imp_in, imp_out, every_true, every_at}
 use Rattle.week.specs.Rules.{Rules, in_domain, together, tied}
 use Rattle.week.specs.Tables.{Week, lots, pair_rules}
-use Rattle.week.proofs.Rules.{domain_below, keeps_read, keeps_make}
+use Rattle.week.proofs.Standing.{domain_below, keeps_read, keeps_make}
 use Rattle.week.proofs.Tables.{accepted}
 use Rattle.sheet.specs.declared.Sheet.{Sheet}
 use Rattle.sheet.specs.Moves.{Move, moves_of, names, near, fresh_at, fresh_lot, fresh_move, fresh, stirs, placed_all}

@@ -1,3 +1,4 @@
+pub mod Pairs
 pub mod Moves
 pub mod Services
 pub mod Placing

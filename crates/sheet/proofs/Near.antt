@@ -8,7 +8,7 @@ use borrow.Author.Tests.{eqb-true, eqb-false, eq-eqb, ne_eqb, not-false}
 use Rattle.lex.specs.Every.{imp, every}
 use Rattle.lex.proofs.Every.{both, and_left, and_right, not_both, imp_in, imp_out, every_true, every_at}
 use Rattle.week.specs.Rules.{Rules, in_domain, together, free, tied}
-use Rattle.week.proofs.Rules.{Symmetric, domain_below, tied_none}
+use Rattle.week.proofs.Standing.{Symmetric, domain_below, tied_none}
 use Rattle.sheet.specs.Moves.{near}
 
 module _ (R : Rules) where

@@ -2,50 +2,36 @@
 -- Assumes nothing.
 use mathlib.Core.Path.{◌≡◌, refl, sym, ◌∙◌, ap}
 use mathlib.Core.Bool.{Bool, true, false, cond}
-use mathlib.Core.List.{List, [], ◌∷◌, ◌++◌, append_assoc}
-use Prim.Native.Nat.{ℕ, zero, suc, ◌+◌, ◌-◌, ◌≤◌, ◌<◌}
+use mathlib.Core.List.{List, ◌++◌}
+use Prim.Native.Nat.{ℕ, zero, suc, ◌≤◌, ◌<◌}
 use native.Mathlib.Omega.{arith}
-use native.Mathlib.Numerals.{add-one}
 use native.Mathlib.Nat.{min-le_left}
 use lib.Dec.{eqb, ltb, leb}
-use lib.ListN.{length, get_or, set, take, replicate, length-take}
-use lib.Seq.{length-take-le, set-append_seam, take-suc, take_all}
-use borrow.Author.Tests.{leb-true, le-leb, lt-leb, lt-ltb, ltb-true, le-ltb, eqb-true, eq-eqb, ne_eqb}
+use lib.ListN.{length, take, drop, replicate, length-take}
+use lib.Seq.{length-take-le, take_all}
+use borrow.Author.Tests.{leb-true, le-leb, lt-ltb, ltb-true, le-ltb, eqb-true, eq-eqb, ne_eqb}
+use Rattle.std.specs.Prelude.{Ok, Err}
+use Rattle.std.proofs.lemmas.List.{drop-replicate}
 use Rattle.lex.specs.Lists.{padded}
-use Rattle.lex.proofs.Every.{false_of, each, each_all}
-use Rattle.week.specs.Refusal.{unless, or_else}
+use Rattle.lex.proofs.Every.{each, each_all}
+use Rattle.week.specs.declared.Refusal.{Refusal}
+use Rattle.week.specs.declared.Refusal.TheVariants as V
+use Rattle.week.specs.Refusal.{unless, or_else, number}
 use Rattle.week.specs.Rules.{Rules, keeps, keeps_half}
 use Rattle.week.specs.Tables.{Week, lots, pair_rules, refusal, admits, joined, numbers_ok, lengths_ok, words_ok, ties_ok}
-use Rattle.week.proofs.Rules.{keeps_half_lem}
-use Rattle.week.proofs.Tables.{stops, goes_on, stops_last, goes_off, passed_first, passed_rest, passed_last, joined_admits, ties_symmetric, halts, runs_on, zero_first, zero_rest}
+use Rattle.week.proofs.Standing.{keeps_half_lem}
+use Rattle.week.proofs.Tables.{stops, goes_on, stops_last, goes_off, passed_first, passed_rest, passed_last, joined_admits, ties_symmetric, halts, runs_on, zero_first, zero_rest, accepted}
 use Rattle.sheet.specs.declared.Sheet.{Sheet}
 use Rattle.sheet.specs.declared.Opened.{Opened}
-use Rattle.sheet.specs.declared.Copied.{Copied}
-use Rattle.sheet.specs.declared.Saved.{Saved}
 use Rattle.sheet.specs.Moves.{moves_of, moves_ok, fresh}
-use Rattle.sheet.specs.Sheet.{zeros, blank, stands, open_answer, new_sheet, opened, sound_marks, sound_tests, sound, copy_answer, copied, result_ok, save_answer, with_moves, saved}
+use Rattle.sheet.specs.Sheet.{Lawful, blank, stands, open_answer, new_sheet, opened, opened_of, sound_marks, sound_tests, sound, copy_answer, result_ok, save_answer}
+use Rattle.week.proofs.Numbered.{number_some}
 
--- Padding, lot by lot
+-- Padding
 
-pub pad_none : (s : List ℕ) → replicate 24 0 ≡ padded 24 (take 0 s)
+pub pad_copied : (n : ℕ) (o x : List ℕ) → n ≤ 24 → n ≤ length o → x ≡ take n o → x ++ drop n (replicate 24 0) ≡ padded 24 (take n o)
 unfolding padded
-pad_none s = refl
-
-pub pad_more : (s out : List ℕ) (i : ℕ) → i < length s → i < 24 → out ≡ padded 24 (take i s) → set out i (get_or s i 0) ≡ padded 24 (take (i + 1) s)
-unfolding padded
-pad_more s out i h k e =
-    ap (λ (l : List ℕ). set l i a) e
-    ∙ (ap (λ (j : ℕ). set (take i s ++ replicate j 0) i a) left
-    ∙ (ap (λ (j : ℕ). set (take i s ++ 0 ∷ replicate (24 - suc i) 0) j a) (sym (length-take-le i s (omega arith)))
-    ∙ (set-append_seam (take i s) 0 (replicate (24 - suc i) 0) a
-    ∙ (sym (append_assoc (take i s) (a ∷ []) (replicate (24 - suc i) 0))
-    ∙ rw (add-one, length-take-le (suc i) s h, take-suc s i 0 h)))))
-  where
-    a : ℕ
-    a = get_or s i 0
-
-    left : 24 - length (take i s) ≡ suc (24 - suc i)
-    left = let e = length-take-le i s (omega arith) in omega arith
+pad_copied n o x few long e = rw (e, drop-replicate {X = ℕ} n 24 0, length-take-le n o long)
 
 -- What the tables of a week that is not refused say
 
@@ -56,6 +42,13 @@ ties_pass W e =
     let r3 = passed_rest (lengths_ok (lots W) W.domain W.loss W.give W.ties) 2 _ (λ z. omega arith) r2 in
     let r4 = passed_rest (words_ok (lots W) W.domain W.loss W.give) 3 _ (λ z. omega arith) r3 in
     passed_last (ties_ok (pair_rules W)) 4 (λ z. omega arith) r4
+
+pub few_lots : (W : Week) → refusal W ≡ 0 → lots W ≤ 24
+few_lots W e = (accepted W e).limits.few
+
+-- the rules of a week that is not refused
+pub lawful : (W : Week) (R : Rules) → R ≡ pair_rules W → 0 ≡ refusal W → Lawful R
+lawful W R same w = rw same (few_lots W (sym w), ties_pass W (sym w))
 
 pub joined_none : (two : Bool) (j : ℕ) → joined true two j ≡ 0 → (two ≡ true) × (j ≡ 0)
 unfolding joined
@@ -89,45 +82,42 @@ module _ (R : Rules) (S : Sheet) where
   unfolding sound
   sound_good t = sym (each_all (sound_tests R S) (eq-eqb _ _ t.lots, (le-leb _ _ t.count, (t.order, (t.marks, tt)))))
 
-  pub sound_bad : (Sound R S → ⊥) → false ≡ sound R S
-  sound_bad h = sym (false_of (sound R S) (λ e. h (sound_read e)))
-
 -- Open
 
-module _ (W : Week) (o : List ℕ) where
+module _ (W : Week) (o : List ℕ) {j k : ℕ} (judge : j ≡ refusal W) (join : k ≡ joined true (eqb (length o) (lots W)) j) where
   abbrev sized : Bool
   sized = eqb (length o) (lots W)
 
-  module _ {j k : ℕ} (judge : j ≡ refusal W) (join : k ≡ joined true (eqb (length o) (lots W)) j) where
-    open_judged : k ≡ admits true sized W
-    open_judged = join ∙ (ap (joined true sized) judge ∙ joined_admits true sized W)
+  open_judged : k ≡ admits true sized W
+  open_judged = join ∙ (ap (joined true sized) judge ∙ joined_admits true sized W)
 
-    pub open_early : (k ≡ 0 → ⊥) → k ≡ open_answer W o
+  pub open_early : (k ≡ 0 → ⊥) → k ≡ open_answer W o
+  unfolding open_answer
+  open_early h = halts (admits true sized W) (unless (keeps (pair_rules W) o) 6) open_judged h
+
+  module _ (z : k ≡ 0) where
+    pub open_week : refusal W ≡ 0
+    open_week = sym judge ∙ (joined_none sized j (sym join ∙ z)).1
+
+    pub open_length : length o ≡ lots W
+    open_length = eqb-true (length o) (lots W) (joined_none sized j (sym join ∙ z)).0
+
+    open_stands : stands (pair_rules W) o ≡ keeps (pair_rules W) o
+    unfolding stands
+    open_stands = ap (keeps (pair_rules W)) (take_all (lots W) o (let e = open_length in omega arith))
+
+    pub open_six : stands (pair_rules W) o ≡ false → 6 ≡ open_answer W o
     unfolding open_answer
-    open_early h = halts (admits true sized W) (unless (keeps (pair_rules W) o) 6) open_judged h
+    open_six e = runs_on (admits true sized W) (unless (keeps (pair_rules W) o) 6) (sym open_judged ∙ z) (stops_last (keeps (pair_rules W) o) 6 (sym open_stands ∙ e))
 
-    module _ (z : k ≡ 0) where
-      pub open_week : refusal W ≡ 0
-      open_week = sym judge ∙ (joined_none sized j (sym join ∙ z)).1
+    pub open_none : stands (pair_rules W) o ≡ true → 0 ≡ open_answer W o
+    unfolding open_answer
+    open_none e = runs_on (admits true sized W) (unless (keeps (pair_rules W) o) 6) (sym open_judged ∙ z) (goes_off (keeps (pair_rules W) o) 6 (sym open_stands ∙ e))
 
-      pub open_length : length o ≡ lots W
-      open_length = eqb-true (length o) (lots W) (joined_none sized j (sym join ∙ z)).0
-
-      open_stands : stands (pair_rules W) o ≡ keeps (pair_rules W) o
-      unfolding stands
-      open_stands = ap (keeps (pair_rules W)) (take_all (lots W) o (let e = open_length in omega arith))
-
-      pub open_six : stands (pair_rules W) o ≡ false → 6 ≡ open_answer W o
-      unfolding open_answer
-      open_six e = runs_on (admits true sized W) (unless (keeps (pair_rules W) o) 6) (sym open_judged ∙ z) (stops_last (keeps (pair_rules W) o) 6 (sym open_stands ∙ e))
-
-      pub open_none : stands (pair_rules W) o ≡ true → 0 ≡ open_answer W o
-      unfolding open_answer
-      open_none e = runs_on (admits true sized W) (unless (keeps (pair_rules W) o) 6) (sym open_judged ∙ z) (goes_off (keeps (pair_rules W) o) 6 (sym open_stands ∙ e))
-
-pub new_sheet_lem : (n : ℕ) (o s : List ℕ) → s ≡ padded 24 (take n o) → ◌≡◌ {A = Sheet} (record { n = n; order = s; saves = 0; marks = zeros }) (new_sheet n o)
-unfolding new_sheet
-new_sheet_lem n o s e = ap (λ (l : List ℕ). record { n = n; order = l; saves = 0; marks = zeros }) e
+-- a blank sheet with the week's number of lots and its order
+pub new_sheet_lem : (n : ℕ) (o s : List ℕ) (S : Sheet) → S ≡ blank → s ≡ padded 24 (take n o) → ◌≡◌ {A = Sheet} (record { n = n; order = s; saves = S.saves; marks = S.marks }) (new_sheet n o)
+unfolding new_sheet blank
+new_sheet_lem n o s S b e = rw (b, e)
 
 -- Copy
 
@@ -138,10 +128,6 @@ module _ (W : Week) (S : Sheet) {j : ℕ} (judge : j ≡ refusal W) where
   pub copy_early : (j ≡ 0 → ⊥) → j ≡ copy_answer W S
   unfolding copy_answer
   copy_early h = halts (refusal W) tail judge h
-
-  pub copy_nine : j ≡ 0 → sound (pair_rules W) S ≡ false → 9 ≡ copy_answer W S
-  unfolding copy_answer
-  copy_nine z e = runs_on (refusal W) tail (sym judge ∙ z) (stops_last (sound (pair_rules W) S) 9 e)
 
   pub copy_none : j ≡ 0 → sound (pair_rules W) S ≡ true → 0 ≡ copy_answer W S
   unfolding copy_answer
@@ -180,15 +166,9 @@ module _ (W : Week) (S : Sheet) (c : ℕ) (m : List ℕ) where
     unfolding save_answer
     to_9 e = runs_on (refusal W) from_9 w e
 
-    pub save_9 : sound R S ≡ false → 9 ≡ save_answer W S c m
-    save_9 e = to_9 (stops (sound R S) 9 from_10 e (λ z. omega arith))
-
     module _ (s : sound R S ≡ true) where
       to_10 : {x : ℕ} → x ≡ from_10 → x ≡ save_answer W S c m
       to_10 e = to_9 (goes_on (sound R S) 9 from_10 s e)
-
-      pub save_10 : S.saves < c → 10 ≡ save_answer W S c m
-      save_10 h = to_10 (stops (leb c S.saves) 10 from_11 (lt-leb c S.saves h) (λ z. omega arith))
 
       module _ (k : c ≤ S.saves) where
         to_11 : {x : ℕ} → x ≡ from_11 → x ≡ save_answer W S c m
@@ -254,39 +234,14 @@ module _ (W : Week) (S : Sheet) (c : ℕ) (m : List ℕ) where
 
 -- What comes back
 
-module _ (W : Week) (o : List ℕ) (S : Sheet) where
-  pub open_refused : (k : ℕ) → k ≡ open_answer W o → (k ≡ 0 → ⊥) → S ≡ blank → ◌≡◌ {A = Opened} (record { answer = k; sheet = S }) (opened W o)
+module _ (W : Week) (o : List ℕ) where
+  abbrev open_of : ℕ → Opened
+  open_of a = record { answer = a; sheet = cond (eqb a 0) (new_sheet (lots W) o) blank }
+
+  pub open_refused : (r : Refusal) → number r ≡ open_answer W o → opened_of (Err r) ≡ opened W o
   unfolding opened
-  open_refused k e h f =
-      ap (λ (T : Sheet). record { answer = k; sheet = T }) (f ∙ sym (rw (ne_eqb k 0 h)))
-      ∙ ap (λ (a : ℕ). record { answer = a; sheet = cond (eqb a 0) (new_sheet (lots W) o) blank }) e
+  open_refused r e = sym (rw (ne_eqb (number r) 0 (number_some r))) ∙ ap open_of e
 
-  pub open_done : 0 ≡ open_answer W o → S ≡ new_sheet (lots W) o → ◌≡◌ {A = Opened} (record { answer = 0; sheet = S }) (opened W o)
+  pub open_done : (S : Sheet) → 0 ≡ open_answer W o → S ≡ new_sheet (lots W) o → opened_of (Ok S) ≡ opened W o
   unfolding opened
-  open_done e f =
-      ap (λ (T : Sheet). record { answer = 0; sheet = T }) f
-      ∙ ap (λ (a : ℕ). record { answer = a; sheet = cond (eqb a 0) (new_sheet (lots W) o) blank }) e
-
-module _ (W : Week) (S : Sheet) where
-  abbrev copy_of : ℕ → Copied
-  copy_of a = record { answer = a; order = cond (eqb a 0) (padded 24 (take (lots W) S.order)) zeros; copy = cond (eqb a 0) S.saves 0 }
-
-  pub copy_refused : (k : ℕ) → k ≡ copy_answer W S → (k ≡ 0 → ⊥) → ◌≡◌ {A = Copied} (record { answer = k; order = zeros; copy = 0 }) (copied W S)
-  unfolding copied
-  copy_refused k e h = sym (rw (ne_eqb k 0 h)) ∙ ap copy_of e
-
-  pub copy_done : (o : List ℕ) → 0 ≡ copy_answer W S → o ≡ padded 24 (take (lots W) S.order) → ◌≡◌ {A = Copied} (record { answer = 0; order = o; copy = S.saves }) (copied W S)
-  unfolding copied
-  copy_done o e f = ap (λ (l : List ℕ). record { answer = 0; order = l; copy = S.saves }) f ∙ ap copy_of e
-
-module _ (W : Week) (S : Sheet) (c : ℕ) (m : List ℕ) where
-  abbrev save_of : ℕ → Saved
-  save_of a = record { answer = a; sheet = cond (eqb a 0) (with_moves S m) S }
-
-  pub save_refused : (k : ℕ) → k ≡ save_answer W S c m → (k ≡ 0 → ⊥) → ◌≡◌ {A = Saved} (record { answer = k; sheet = S }) (saved W S c m)
-  unfolding saved
-  save_refused k e h = sym (rw (ne_eqb k 0 h)) ∙ ap save_of e
-
-  pub save_done : (T : Sheet) → 0 ≡ save_answer W S c m → T ≡ with_moves S m → ◌≡◌ {A = Saved} (record { answer = 0; sheet = T }) (saved W S c m)
-  unfolding saved
-  save_done T e f = ap (λ (T : Sheet). record { answer = 0; sheet = T }) f ∙ ap save_of e
+  open_done S e f = ap (λ (T : Sheet). record { answer = 0; sheet = T }) f ∙ ap open_of e

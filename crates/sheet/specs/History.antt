@@ -5,9 +5,8 @@ use Rattle.std.specs.Prelude.{◌≡◌, Bool, true, false, ◌&&◌, ◌||◌, 
 use Rattle.week.specs.declared.Numbers.{Numbers}
 use Rattle.week.specs.Tables.{Week, week, lots, pair_rules}
 use Rattle.sheet.specs.declared.Sheet.{Sheet}
-use Rattle.sheet.specs.declared.Saved.{Saved}
 use Rattle.sheet.specs.Moves.{moves_of, names, near, placed_all}
-use Rattle.sheet.specs.Sheet.{copied, saved}
+use Rattle.sheet.specs.Sheet.{Saved, copied, saved}
 
 -- what a call is lent: its own numbers and the tables of W
 abbrev pub lent : Week → Numbers → Week

@@ -3,6 +3,7 @@
 use Rattle.std.specs.Prelude.{Bool, true, ◌&&◌, ◌||◌, not, List, [], ◌∷◌, ℕ, ◌*◌, ◌%◌, eqb, ltb, leb, length, get_or, set}
 use Rattle.lex.specs.Every.{imp, all, every, every_of, some_of}
 use Rattle.week.specs.Rules.{Rules, bit_of, tied}
+use Rattle.sheet.specs.declared.Move.{Move as Held}
 
 -- one lot to one slot
 pub record Move : Type 0 where
@@ -12,11 +13,23 @@ pub record Move : Type 0 where
 abbrev pub move : ℕ → ℕ → Move
 move p v = record { lot = p; slot = v }
 
+-- the same, as the code holds it
+abbrev pub move_of : Held → Move
+move_of x = move x.lot.0 x.slot.0
+
 -- moves come as byte pairs (lot, slot); a last odd byte is none
 unfoldable pub moves_of : List ℕ → List Move
 moves_of [] = []
 moves_of (p ∷ []) = []
 moves_of (p ∷ v ∷ m) = move p v ∷ moves_of m
+
+-- the same of whole pairs
+abbrev pub move_at : List ℕ → Move
+move_at b = move (get_or b 0 0) (get_or b 1 0)
+
+abbrev pub moves_at : List (List ℕ) → List Move
+moves_at [] = []
+moves_at (b ∷ m) = move_at b ∷ moves_at m
 
 -- the moves name lot p
 unfoldable pub is_of : ℕ → Move → Bool

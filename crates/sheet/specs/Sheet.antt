@@ -1,15 +1,16 @@
 -- The sheet: what open, copy and save answer and give, for every sheet, week, copy number and moves.
 -- Assumes nothing.
-use Rattle.std.specs.Prelude.{Bool, true, ◌&&◌, cond, List, [], ◌∷◌, ℕ, ◌+◌, eqb, ltb, leb, length, get_or, take, replicate}
+use Rattle.std.specs.Prelude.{◌≡◌, Bool, true, ◌&&◌, cond, List, [], ◌∷◌, ℕ, ◌+◌, ◌≤◌, eqb, ltb, leb, length, get_or, take, replicate, Result, Ok, Err}
 use Rattle.lex.specs.Every.{all, every, every_of}
 use Rattle.lex.specs.Lists.{padded}
-use Rattle.week.specs.Refusal.{unless, or_else}
+use Rattle.week.specs.declared.Refusal.{Refusal}
+use Rattle.week.specs.Refusal.{unless, or_else, number}
 use Rattle.week.specs.Rules.{Rules, keeps}
-use Rattle.week.specs.Tables.{Week, lots, pair_rules, refusal, admits}
+use Rattle.week.specs.Tables.{Week, lots, pair_rules, refusal, admits, ties_ok}
 use Rattle.sheet.specs.declared.Sheet.{Sheet}
 use Rattle.sheet.specs.declared.Opened.{Opened}
 use Rattle.sheet.specs.declared.Copied.{Copied}
-use Rattle.sheet.specs.declared.Saved.{Saved}
+use Rattle.sheet.specs.declared.DeskCopy.{DeskCopy}
 use Rattle.sheet.specs.Moves.{moves_of, moves_ok, fresh, stirs, placed_all, marked_all}
 
 unfoldable pub zeros : List ℕ
@@ -18,6 +19,10 @@ zeros = replicate 24 0
 -- what comes back where open is refused
 unfoldable pub blank : Sheet
 blank = record { n = 0; order = zeros; saves = 0; marks = zeros }
+
+-- the rules of a week that is not refused: what the code's half of the pairs needs
+abbrev pub Lawful : Rules → Type 0
+Lawful R = (R.lots ≤ 24) × (ties_ok R ≡ true)
 
 -- the first places of an order of 24, those of the week's lots, keep the rules
 unfoldable pub stands : Rules → List ℕ → Bool
@@ -33,6 +38,11 @@ new_sheet n o = record { n = n; order = padded 24 (take n o); saves = 0; marks =
 
 unfoldable pub opened : Week → List ℕ → Opened
 opened W o = record { answer = open_answer W o; sheet = cond (eqb (open_answer W o) 0) (new_sheet (lots W) o) blank }
+
+-- the same from what the code gives: with a refusal comes a blank sheet
+abbrev pub opened_of : Result Sheet Refusal → Opened
+opened_of (Ok S) = record { answer = 0; sheet = S }
+opened_of (Err r) = record { answer = number r; sheet = blank }
 
 -- Copy
 
@@ -65,6 +75,11 @@ copied W S = record {
   order = cond (eqb (copy_answer W S) 0) (padded 24 (take (lots W) S.order)) zeros;
 }
 
+-- the same from what the code gives: with a refusal come zeros
+abbrev pub copied_of : Result DeskCopy Refusal → Copied
+copied_of (Ok c) = record { answer = 0; copy = c.number; order = c.order }
+copied_of (Err r) = record { answer = number r; copy = 0; order = zeros }
+
 -- Save
 
 -- 13: every move is to another slot, and the result keeps the rules
@@ -91,8 +106,17 @@ with_moves S m = record {
 }
 
 -- an answer, and the sheet that it leaves
+pub record Saved : Type 0 where
+  pub answer : ℕ
+  pub sheet : Sheet
+
 abbrev pub left : ℕ → Sheet → Saved
 left k S = record { answer = k; sheet = S }
 
 unfoldable pub saved : Week → Sheet → ℕ → List ℕ → Saved
 saved W S c m = left (save_answer W S c m) (cond (eqb (save_answer W S c m) 0) (with_moves S m) S)
+
+-- the same from what the code gives by value: a refusal leaves sheet S
+abbrev pub saved_of : Sheet → Result Sheet Refusal → Saved
+saved_of S (Ok T) = left 0 T
+saved_of S (Err r) = left (number r) S

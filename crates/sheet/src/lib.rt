@@ -1,18 +1,22 @@
 // The sheet that the desks share: opened on an order, copied by value, saved in place.
 #![tactic(auto)]
 
-ghost use Rattle.std.specs.Prelude.{◌≡◌, true, ◌≤◌, ◌<◌, length, get_or, set, take, drop};
+ghost use Rattle.std.specs.Prelude.{◌≡◌, ◌&&◌, ◌≤◌, ◌<◌, length, get_or, set, take};
 ghost use Rattle.lex.specs.Every.{every_of};
 ghost use Rattle.lex.specs.Lists.{padded};
-ghost use Rattle.week.specs.Rules.{rules};
-ghost use Rattle.week.specs.Tables.{week, ties_ok};
-ghost use Rattle.sheet.specs.Moves.{move, moves_of, names, move_ok, once, moves_ok, fresh_at, fresh_lot, fresh, stirs, placed_all, marked_all};
-ghost use Rattle.sheet.specs.Sheet.{blank, stands, opened, sound_marks, sound, copied, result_ok, save_answer, with_moves, left, saved};
+ghost use Rattle.week.specs.Refusal.{answer};
+ghost use Rattle.week.specs.Rules.{rules_of};
+ghost use Rattle.week.specs.Tables.{lent};
+ghost use Rattle.sheet.specs.Moves.{move_of, move_at, moves_at, moves_of, names, move_ok, once, moves_ok, fresh_at, fresh_lot, fresh, stirs, placed_all, marked_all};
+ghost use Rattle.sheet.specs.Sheet.{Lawful, blank, stands, opened, opened_of, sound_marks, sound, copied, copied_of, save_answer, with_moves, left, saved, saved_of};
 
-use week::{Lot, Numbers, Order, Slot};
+use week::{Lot, Order, Refusal, Rules, Slot, Week};
+
+// The most saves that a sheet can count.
+const MOST_SAVES: u32 = 65535;
 
 // The shared sheet: n, the order by lots, the number of accepted saves, and for each lot the save at which it last moved.
-// Its own numbers are as wide as a caller may hand in; refusal 9 judges them.
+// Its own numbers are as wide as a caller may hand in: a service refuses a sheet that is none of its week.
 #[repr(C)]
 #[derive(Clone, Copy)]
 pub struct Sheet {
@@ -22,7 +26,7 @@ pub struct Sheet {
     pub marks: [u32; 24],
 }
 
-// What open gives: refusal or 0, and the sheet, all 0 where refused.
+// What open gives C: refusal or 0, and the sheet, all 0 where refused.
 #[repr(C)]
 #[derive(Clone, Copy)]
 pub struct Opened {
@@ -30,7 +34,7 @@ pub struct Opened {
     pub sheet: Sheet,
 }
 
-// What copy gives: refusal or 0, the copy number and the order, 0 where refused.
+// What copy gives C: refusal or 0, the copy number and the order, 0 where refused.
 #[repr(C)]
 #[derive(Clone, Copy)]
 pub struct Copied {
@@ -39,477 +43,368 @@ pub struct Copied {
     pub order: [u8; 24],
 }
 
-// What a save gives by value: refusal or 0, and the sheet afterwards, as it was where refused.
+// A desk's copy of the sheet: the save number at which it was taken, and the order.
 #[derive(Clone, Copy)]
-pub struct Saved {
-    pub answer: u32,
-    pub sheet: Sheet,
+pub struct DeskCopy {
+    pub number: u32,
+    pub order: [u8; 24],
 }
 
-// The places of the lots, then 0 up to 24 places.
-fn pad(n: u32, order: &[u8]) -> [u8; 24]
-    requires { (n ≤ 24) × (n ≤ length order.now) }
-    ensures { result ≡ padded 24 (take n order.now) }
-{
-    let mut out = Order::empty();
-    let mut p: u8 = 0;
-    while (p as u32) < n {
-        out = out.placed(Lot(p), week::slot_in(order, Lot(p)));
-        p += 1;
+// One move: a lot, and the slot that it goes to.
+#[derive(Clone, Copy)]
+struct Move {
+    lot: Lot,
+    slot: Slot,
+}
+
+impl Default for Sheet {
+    ghost is_default = { λ s. s ≡ blank };
+
+    // A sheet that says nothing: every number is 0.
+    #[tactic(auto, unfolding(crate::specs::Sheet::blank, crate::specs::Sheet::zeros))]
+    fn default() -> Sheet {
+        Sheet {
+            n: 0,
+            order: [0; 24],
+            saves: 0,
+            marks: [0; 24],
+        }
     }
-    out.slots
+}
+
+impl From<Result<Sheet, Refusal>> for Opened {
+    ghost from_gives = { λ opening given. given ≡ opened_of opening };
+
+    // The same for C: the refusal's number, and with it a sheet that says nothing.
+    fn from(opening: Result<Sheet, Refusal>) -> Opened {
+        match opening {
+            Ok(sheet) => Opened { answer: 0, sheet },
+            Err(refusal) => Opened {
+                answer: refusal.number(),
+                sheet: Sheet::default(),
+            },
+        }
+    }
+}
+
+impl From<Result<DeskCopy, Refusal>> for Copied {
+    ghost from_gives = { λ copying given. given ≡ copied_of copying };
+
+    // The same for C: the refusal's number, and with it nothing of the sheet.
+    #[tactic(auto, unfolding(crate::specs::Sheet::zeros))]
+    fn from(copying: Result<DeskCopy, Refusal>) -> Copied {
+        match copying {
+            Ok(copy) => {
+                // In a variable: the prover takes no array into a literal straight from a field.
+                let order = copy.order;
+                Copied {
+                    answer: 0,
+                    copy: copy.number,
+                    order,
+                }
+            }
+            Err(refusal) => Copied {
+                answer: refusal.number(),
+                copy: 0,
+                order: [0; 24],
+            },
+        }
+    }
+}
+
+// The slots of the first lots, then 0 up to 24 places.
+fn pad(lots: usize, order: &[u8]) -> [u8; 24]
+    requires { (lots ≤ 24) × (lots ≤ length order.now) }
+    ensures { result ≡ padded 24 (take lots order.now) }
+{
+    let mut out = [0; 24];
+    out[..lots].copy_from_slice(&order[..lots]);
+    out
 }
 
 // Whether the lots of an order keep the rules; the places beyond them mean nothing.
-fn lots_stand(n: u32, domain: &[u16], ties: &[u16], order: &[u8]) -> bool
-    requires { (n ≤ 24) × ((n ≤ length order.now) × (ties_ok (rules n domain.now ties.now) ≡ true)) }
-    ensures { result ≡ stands (rules n domain.now ties.now) order.now }
+fn lots_stand(rules: &Rules<'_>, order: &[u8]) -> bool
+    requires { Lawful (rules_of rules.now) × (rules.now.lots ≤ length order.now) }
+    ensures { result ≡ stands (rules_of rules.now) order.now }
 {
-    let lots = n as usize;
-    week::keeps_rules(n, domain, ties, &order[..lots])
-}
-
-// A sheet that says nothing, for a refused open.
-fn no_sheet() -> Sheet
-    ensures { result ≡ blank }
-{
-    Sheet {
-        n: 0,
-        order: [0; 24],
-        saves: 0,
-        marks: [0; 24],
-    }
-}
-
-// A new sheet on an order that keeps the rules: no saves, no marks.
-pub fn open(
-    numbers: Numbers,
-    domain: &[u16],
-    loss: &[u16],
-    give: &[u16],
-    ties: &[u16],
-    order: &[u8],
-) -> Opened
-    ensures { result ≡ opened (week numbers domain.now loss.now give.now ties.now) order.now }
-{
-    let n = numbers.n;
-    let judged = tables::judge(numbers, domain, loss, give, ties);
-    let answer = tables::join(true, order.len() == n as usize, judged);
-    if answer != 0 {
-        return Opened {
-            answer,
-            sheet: no_sheet(),
-        };
-    }
-    if !lots_stand(n, domain, ties, order) {
-        return Opened {
-            answer: 6,
-            sheet: no_sheet(),
-        };
-    }
-    let slots = pad(n, order);
-    Opened {
-        answer: 0,
-        sheet: Sheet {
-            n,
-            order: slots,
-            saves: 0,
-            marks: [0; 24],
-        },
-    }
+    let lots = rules.lots as usize;
+    rules.keeps(&order[..lots])
 }
 
 // A lot's mark; 0 beyond the marks' end.
 fn mark_of(marks: &[u32], lot: Lot) -> u32
     ensures { result ≡ get_or marks.now lot.0 0 }
 {
-    let at = lot.0 as usize;
-    if marks.len() <= at {
-        return 0;
-    }
-    marks[at]
+    marks.get(usize::from(lot.0)).copied().unwrap_or(0)
 }
 
-// Refusal 9, of the marks: none of a lot below n is above the save number.
-fn marks_ok(n: u32, saves: u32, marks: &[u32]) -> bool
-    requires { n ≤ 24 }
-    ensures { result ≡ sound_marks n saves marks.now }
+// Whether no lot's mark is above the save number.
+fn marks_ok(lots: u32, saves: u32, marks: &[u32]) -> bool
+    requires { lots ≤ 24 }
+    ensures { result ≡ sound_marks lots saves marks.now }
 {
-    let mut p: u8 = 0;
-    while (p as u32) < n {
-        if saves < mark_of(marks, Lot(p)) {
-            return false;
-        }
-        p += 1;
-    }
-    true
+    (0..lots as u8).all(|p| mark_of(marks, Lot(p)) <= saves)
 }
 
-// Refusal 9: whether a sheet is one of this week.
-fn is_sound(sheet: Sheet, n: u32, domain: &[u16], ties: &[u16]) -> bool
-    requires { (n ≤ 24) × (ties_ok (rules n domain.now ties.now) ≡ true) }
-    ensures { result ≡ sound (rules n domain.now ties.now) sheet }
+// A new sheet on an order that keeps the rules: no saves, no marks.
+pub fn open(week: &Week<'_>, order: &[u8]) -> Result<Sheet, Refusal>
+    ensures { opened_of result ≡ opened (lent week.now) order.now }
 {
-    if sheet.n != n {
-        return false;
+    let n = week.numbers.n;
+    let lots = n as usize;
+    let judged = tables::judge(week);
+    tables::join(true, order.len() == lots, judged)?;
+    if !lots_stand(&week.rules(), order) {
+        return Err(Refusal::Order);
     }
-    let saves = sheet.saves;
-    if 65535 < saves {
-        return false;
-    }
-    let order = sheet.order;
-    if !lots_stand(n, domain, ties, &order) {
-        return false;
-    }
-    let marks = sheet.marks;
-    if !marks_ok(n, saves, &marks) {
-        return false;
-    }
-    true
+    Ok(Sheet {
+        n,
+        order: pad(lots, order),
+        ..Sheet::default()
+    })
 }
 
-impl Sheet {
-    // The order by value and the save number, which is its copy number.
-    pub fn copy(
-        self,
-        numbers: Numbers,
-        domain: &[u16],
-        loss: &[u16],
-        give: &[u16],
-        ties: &[u16],
-    ) -> Copied
-        ensures { result ≡ copied (week numbers domain.now loss.now give.now ties.now) self }
+impl Move {
+    // A move as C writes it: the lot's byte, then the slot's.
+    fn of(pair: &[u8; 2]) -> Move
+        ensures { move_of result ≡ move_at pair.now }
     {
-        let n = numbers.n;
-        let judged = tables::judge(numbers, domain, loss, give, ties);
-        if judged != 0 {
-            return Copied {
-                answer: judged,
-                copy: 0,
-                order: [0; 24],
-            };
+        Move {
+            lot: Lot(pair[0]),
+            slot: Slot(pair[1]),
         }
-        if !is_sound(self, n, domain, ties) {
-            return Copied {
-                answer: 9,
-                copy: 0,
-                order: [0; 24],
-            };
-        }
-        let order = self.order;
-        let slots = pad(n, &order);
-        Copied {
-            answer: 0,
-            copy: self.saves,
-            order: slots,
-        }
+    }
+
+    // Whether it is of a lot of the week, to a slot of its domain.
+    #[tactic(auto, unfolding(crate::specs::Moves::move_ok))]
+    fn is_ok(self, rules: &Rules<'_>) -> bool
+        ensures { result ≡ move_ok rules.now.lots rules.now.domain.now (move_of self) }
+    {
+        u32::from(self.lot.0) < rules.lots
+            && week::bit(week::word_of(rules.domain, self.lot), self.slot)
+    }
+
+    // Whether it is to another slot than the lot stands in.
+    #[tactic(auto, unfolding(crate::specs::Moves::stirs))]
+    fn stirs(self, order: &[u8]) -> bool
+        ensures { result ≡ stirs order.now (move_of self) }
+    {
+        week::slot_in(order, self.lot) != self.slot
     }
 }
 
-// Refusal 11, of one move: a lot of the week, and a slot of its domain.
-fn move_ok(n: u32, domain: &[u16], lot: Lot, slot: Slot) -> bool
-    ensures { result ≡ move_ok n domain.now (move lot.0 slot.0) }
+// The moves of a save, pairs of bytes; a last odd byte is none.
+fn moves_in(bytes: &[u8]) -> &[[u8; 2]]
+    ensures { moves_at result.now ≡ moves_of bytes.now }
 {
-    if n <= lot.0 as u32 {
-        return false;
-    }
-    week::bit(week::word_of(domain, lot), slot)
+    bytes.as_chunks::<2>().0
 }
 
-// Refusal 11, of every move.
-fn each_ok(n: u32, domain: &[u16], moves: &[u8]) -> bool
-    ensures { result ≡ every_of (move_ok n domain.now) (moves_of moves.now) }
+// Whether every move is of a lot of the week, to a slot of its domain.
+fn each_ok(rules: &Rules<'_>, moves: &[[u8; 2]]) -> bool
+    ensures { result ≡ every_of (move_ok rules.now.lots rules.now.domain.now) (moves_at moves.now) }
 {
-    let mut i: usize = 0;
-    while i + 1 < moves.len() {
-        if !move_ok(n, domain, Lot(moves[i]), Slot(moves[i + 1])) {
+    moves.iter().all(|pair| Move::of(pair).is_ok(rules))
+}
+
+// Whether a move names a lot.
+fn names_lot(moves: &[[u8; 2]], lot: Lot) -> bool
+    ensures { result ≡ names (moves_at moves.now) lot.0 }
+{
+    moves.iter().any(|pair| Move::of(pair).lot == lot)
+}
+
+// Whether no lot is named twice.
+#[tactic(auto, unfolding(crate::specs::Moves::once))]
+fn lots_once(moves: &[[u8; 2]]) -> bool
+    ensures { result ≡ once (moves_at moves.now) }
+{
+    let mut rest = moves;
+    while let Some((pair, later)) = rest.split_first() {
+        if names_lot(later, Move::of(pair).lot) {
             return false;
         }
-        i += 2;
+        rest = later;
     }
     true
 }
 
-// Whether a move from place `from` on names a lot.
-fn names_lot(moves: &[u8], from: usize, lot: Lot) -> bool
-    requires { from ≤ length moves.now }
-    ensures { result ≡ names (moves_of (drop from moves.now)) lot.0 }
+// Whether the moves are well formed: whole pairs, 1 to n of them, each right, no lot twice.
+#[tactic(auto, unfolding(crate::specs::Moves::moves_ok))]
+fn moves_ok(rules: &Rules<'_>, bytes: &[u8]) -> bool
+    requires { rules.now.lots ≤ 24 }
+    ensures { result ≡ moves_ok rules.now.lots rules.now.domain.now bytes.now }
 {
-    let mut i = from;
-    while i + 1 < moves.len() {
-        if moves[i] == lot.0 {
-            return true;
-        }
-        i += 2;
-    }
-    false
+    let moves = moves_in(bytes);
+    !bytes.is_empty()
+        && bytes.len() <= rules.lots as usize * 2
+        && bytes.len() % 2 == 0
+        && each_ok(rules, moves)
+        && lots_once(moves)
 }
 
-// Refusal 11: whether no lot is named twice.
-fn lots_once(moves: &[u8]) -> bool
-    ensures { result ≡ once (moves_of moves.now) }
+// Whether lot q does not make a move of lot p stale: it is not p, nor tied to it, or has no mark above the copy number.
+#[tactic(auto, unfolding(crate::specs::Moves::fresh_at, crate::specs::Moves::near))]
+fn mark_fresh(rules: &Rules<'_>, marks: &[u32], copy: u32, p: Lot, q: Lot) -> bool
+    ensures { result ≡ fresh_at (rules_of rules.now) marks.now copy p.0 q.0 }
 {
-    let mut i: usize = 0;
-    while i + 1 < moves.len() {
-        if names_lot(moves, i + 2, Lot(moves[i])) {
-            return false;
-        }
-        i += 2;
-    }
-    true
+    mark_of(marks, q) <= copy || p != q && !rules.is_tied(p, q)
 }
 
-// Refusal 11: whole pairs, 1 to n of them, each right, no lot twice.
-fn moves_ok(n: u32, domain: &[u16], moves: &[u8]) -> bool
-    requires { n ≤ 24 }
-    ensures { result ≡ moves_ok n domain.now moves.now }
+// Whether neither a moved lot nor one tied to it has a mark above the copy number.
+fn lot_fresh(rules: &Rules<'_>, marks: &[u32], copy: u32, p: Lot) -> bool
+    requires { rules.now.lots ≤ 24 }
+    ensures { result ≡ fresh_lot (rules_of rules.now) marks.now copy p.0 }
 {
-    let count = moves.len();
-    if count < 1 {
-        return false;
-    }
-    if n as usize * 2 < count {
-        return false;
-    }
-    if count % 2 != 0 {
-        return false;
-    }
-    if !each_ok(n, domain, moves) {
-        return false;
-    }
-    if !lots_once(moves) {
-        return false;
-    }
-    true
+    (0..rules.lots as u8).all(|q| mark_fresh(rules, marks, copy, p, Lot(q)))
 }
 
-// Refusal 12, of a moved lot p and a lot q that may be it or tied to it.
-fn mark_fresh(
-    n: u32,
-    domain: &[u16],
-    ties: &[u16],
-    marks: &[u32],
-    copy: u32,
-    p: Lot,
-    q: Lot,
-) -> bool
-    ensures { result ≡ fresh_at (rules n domain.now ties.now) marks.now copy p.0 q.0 }
+// Whether no move is stale.
+fn all_fresh(rules: &Rules<'_>, marks: &[u32], copy: u32, moves: &[[u8; 2]]) -> bool
+    requires { rules.now.lots ≤ 24 }
+    ensures { result ≡ fresh (rules_of rules.now) marks.now copy (moves_at moves.now) }
 {
-    if mark_of(marks, q) <= copy {
-        return true;
-    }
-    if p.0 == q.0 {
-        return false;
-    }
-    !week::is_tied(n, domain, ties, p, q)
+    moves
+        .iter()
+        .all(|pair| lot_fresh(rules, marks, copy, Move::of(pair).lot))
 }
 
-// Refusal 12, of a moved lot: neither it nor a lot tied to it has a mark above the copy number.
-fn lot_fresh(n: u32, domain: &[u16], ties: &[u16], marks: &[u32], copy: u32, p: Lot) -> bool
-    requires { n ≤ 24 }
-    ensures { result ≡ fresh_lot (rules n domain.now ties.now) marks.now copy p.0 }
+// Whether every move is to another slot.
+fn all_stir(order: &[u8], moves: &[[u8; 2]]) -> bool
+    ensures { result ≡ every_of (stirs order.now) (moves_at moves.now) }
 {
-    let mut q: u8 = 0;
-    while (q as u32) < n {
-        if !mark_fresh(n, domain, ties, marks, copy, p, Lot(q)) {
-            return false;
-        }
-        q += 1;
-    }
-    true
-}
-
-// Refusal 12: whether no move is stale.
-fn all_fresh(n: u32, domain: &[u16], ties: &[u16], marks: &[u32], copy: u32, moves: &[u8]) -> bool
-    requires { n ≤ 24 }
-    ensures { result ≡ fresh (rules n domain.now ties.now) marks.now copy (moves_of moves.now) }
-{
-    let mut i: usize = 0;
-    while i + 1 < moves.len() {
-        if !lot_fresh(n, domain, ties, marks, copy, Lot(moves[i])) {
-            return false;
-        }
-        i += 2;
-    }
-    true
-}
-
-// Refusal 13, of one move: whether it is to another slot than the lot stands in.
-fn move_stirs(order: &[u8], lot: Lot, slot: Slot) -> bool
-    ensures { result ≡ stirs order.now (move lot.0 slot.0) }
-{
-    let old = week::slot_in(order, lot);
-    old.0 != slot.0
-}
-
-// Refusal 13: whether every move is to another slot.
-fn all_stir(order: &[u8], moves: &[u8]) -> bool
-    ensures { result ≡ every_of (stirs order.now) (moves_of moves.now) }
-{
-    let mut i: usize = 0;
-    while i + 1 < moves.len() {
-        if !move_stirs(order, Lot(moves[i]), Slot(moves[i + 1])) {
-            return false;
-        }
-        i += 2;
-    }
-    true
+    moves.iter().all(|pair| Move::of(pair).stirs(order))
 }
 
 // The order with the moves placed, one after another.
-fn place(order: Order, moves: &[u8]) -> Order
-    ensures { result.slots ≡ placed_all (moves_of moves.now) order.slots }
+fn place(order: [u8; 24], moves: &[[u8; 2]]) -> [u8; 24]
+    ensures { result ≡ placed_all (moves_at moves.now) order }
 {
-    let mut out = order;
-    let mut i: usize = 0;
-    while i + 1 < moves.len() {
-        out = out.placed(Lot(moves[i]), Slot(moves[i + 1]));
-        i += 2;
+    let mut out = Order { slots: order };
+    for pair in moves {
+        let to = Move::of(pair);
+        out = out.placed(to.lot, to.slot);
     }
-    out
+    out.slots
 }
 
 // A lot's mark into the marks; beyond their end nothing changes.
 fn put_mark(marks: &mut [u32], lot: Lot, save: u32)
     ensures { marks.new ≡ set marks.old lot.0 save }
 {
-    let at = lot.0 as usize;
-    if marks.len() <= at {
-        return;
+    // Not `get_mut`: what it promises does not say that the other marks stay, nor that all do where it gives none.
+    let at = usize::from(lot.0);
+    if at < marks.len() {
+        marks[at] = save;
     }
-    marks[at] = save;
 }
 
 // The marks with every moved lot's set to the save number.
-fn mark(marks: [u32; 24], moves: &[u8], save: u32) -> [u32; 24]
-    ensures { result ≡ marked_all save (moves_of moves.now) marks }
+fn mark(marks: [u32; 24], moves: &[[u8; 2]], save: u32) -> [u32; 24]
+    ensures { result ≡ marked_all save (moves_at moves.now) marks }
 {
     let mut out = marks;
-    let mut i: usize = 0;
-    while i + 1 < moves.len() {
-        put_mark(&mut out, Lot(moves[i]), save);
-        i += 2;
+    for pair in moves {
+        put_mark(&mut out, Move::of(pair).lot, save);
     }
     out
 }
 
-// Refusal 13: whether every move is to another slot and the order with them keeps the rules.
-fn result_ok(n: u32, domain: &[u16], ties: &[u16], order: [u8; 24], moves: &[u8]) -> bool
-    requires { (n ≤ 24) × (ties_ok (rules n domain.now ties.now) ≡ true) }
-    ensures { result ≡ result_ok (rules n domain.now ties.now) order moves.now }
+// Whether every move is to another slot and the order with them keeps the rules.
+fn result_ok(rules: &Rules<'_>, order: [u8; 24], moves: &[[u8; 2]]) -> bool
+    requires { Lawful (rules_of rules.now) }
+    ensures { result ≡ (every_of (stirs order) (moves_at moves.now) && stands (rules_of rules.now) (placed_all (moves_at moves.now) order)) }
 {
-    if !all_stir(&order, moves) {
-        return false;
-    }
-    let placed = place(Order { slots: order }, moves);
-    let slots = placed.slots;
-    lots_stand(n, domain, ties, &slots)
+    all_stir(&order, moves) && lots_stand(rules, &place(order, moves))
 }
 
-// The answer of a save: each check in its turn.
-fn answer_of(
-    sheet: Sheet,
-    numbers: Numbers,
-    domain: &[u16],
-    loss: &[u16],
-    give: &[u16],
-    ties: &[u16],
-    copy: u32,
-    moves: &[u8],
-) -> u32
-    ensures { result ≡ save_answer (week numbers domain.now loss.now give.now ties.now) sheet copy moves.now }
-{
-    let n = numbers.n;
-    let judged = tables::judge(numbers, domain, loss, give, ties);
-    if judged != 0 {
-        return judged;
+impl Sheet {
+    // Whether it is a sheet of this week.
+    #[tactic(auto, unfolding(crate::specs::Sheet::sound))]
+    fn is_sound(&self, rules: &Rules<'_>) -> bool
+        requires { Lawful (rules_of rules.now) }
+        ensures { result ≡ sound (rules_of rules.now) self.now }
+    {
+        self.n == rules.lots
+            && self.saves <= MOST_SAVES
+            && lots_stand(rules, &self.order)
+            && marks_ok(rules.lots, self.saves, &self.marks)
     }
-    if !is_sound(sheet, n, domain, ties) {
-        return 9;
-    }
-    if sheet.saves < copy {
-        return 10;
-    }
-    if !moves_ok(n, domain, moves) {
-        return 11;
-    }
-    let marks = sheet.marks;
-    if !all_fresh(n, domain, ties, &marks, copy, moves) {
-        return 12;
-    }
-    let order = sheet.order;
-    if !result_ok(n, domain, ties, order, moves) {
-        return 13;
-    }
-    if 65535 <= sheet.saves {
-        return 14;
-    }
-    0
-}
 
-// The slots of a sheet with the moves put in, whatever it has saved before.
-fn put_in(sheet: Sheet, moves: &[u8]) -> [u8; 24]
-    ensures { result ≡ placed_all (moves_of moves.now) sheet.order }
-{
-    let slots = sheet.order;
-    let placed = place(Order { slots }, moves);
-    placed.slots
-}
-
-// The sheet with the moves of an accepted save: one save more, and its number for a mark of every moved lot.
-fn moved(sheet: Sheet, moves: &[u8]) -> Sheet
-    requires { sheet.saves < 65535 }
-    ensures { result ≡ with_moves sheet moves.now }
-{
-    let order = put_in(sheet, moves);
-    let saves = sheet.saves + 1;
-    let old = sheet.marks;
-    let marks = mark(old, moves, saves);
-    Sheet {
-        n: sheet.n,
-        order,
-        saves,
-        marks,
+    // The order by value and the save number, which is its copy number.
+    #[tactic(auto, unfolding(crate::specs::Sheet::copied, crate::specs::Sheet::copy_answer), using(week::proofs::Numbered::number_some))]
+    pub fn copy(self, week: &Week<'_>) -> Result<DeskCopy, Refusal>
+        ensures { copied_of result ≡ copied (lent week.now) self }
+    {
+        tables::judge(week)?;
+        if !self.is_sound(&week.rules()) {
+            return Err(Refusal::Sheet);
+        }
+        Ok(DeskCopy {
+            number: self.saves,
+            order: pad(week.numbers.n as usize, &self.order),
+        })
     }
-}
 
-// A save by value: the answer, and the sheet afterwards.
-pub fn put_moves(
-    sheet: Sheet,
-    numbers: Numbers,
-    domain: &[u16],
-    loss: &[u16],
-    give: &[u16],
-    ties: &[u16],
-    copy: u32,
-    moves: &[u8],
-) -> Saved
-    ensures { result ≡ saved (week numbers domain.now loss.now give.now ties.now) sheet copy moves.now }
-{
-    let answer = answer_of(sheet, numbers, domain, loss, give, ties, copy, moves);
-    if answer != 0 {
-        return Saved { answer, sheet };
+    // Whether a save is accepted: each check in its turn.
+    #[tactic(auto, unfolding(crate::specs::Sheet::save_answer, crate::specs::Sheet::result_ok))]
+    fn judge(&self, week: &Week<'_>, copy: u32, bytes: &[u8]) -> Result<(), Refusal>
+        ensures { answer result ≡ save_answer (lent week.now) self.now copy bytes.now }
+    {
+        tables::judge(week)?;
+        let rules = week.rules();
+        if !self.is_sound(&rules) {
+            return Err(Refusal::Sheet);
+        }
+        if self.saves < copy {
+            return Err(Refusal::Copy);
+        }
+        if !moves_ok(&rules, bytes) {
+            return Err(Refusal::Moves);
+        }
+        let moves = moves_in(bytes);
+        if !all_fresh(&rules, &self.marks, copy, moves) {
+            return Err(Refusal::Stale);
+        }
+        if !result_ok(&rules, self.order, moves) {
+            return Err(Refusal::Result);
+        }
+        if MOST_SAVES <= self.saves {
+            return Err(Refusal::Full);
+        }
+        Ok(())
     }
-    Saved {
-        answer: 0,
-        sheet: moved(sheet, moves),
-    }
-}
 
-// A save on the one shared sheet, in place.
-pub fn save(
-    sheet: &mut Sheet,
-    numbers: Numbers,
-    domain: &[u16],
-    loss: &[u16],
-    give: &[u16],
-    ties: &[u16],
-    copy: u32,
-    moves: &[u8],
-) -> u32
-    ensures { left result sheet.new ≡ saved (week numbers domain.now loss.now give.now ties.now) sheet.old copy moves.now }
-{
-    let out = put_moves(*sheet, numbers, domain, loss, give, ties, copy, moves);
-    *sheet = out.sheet;
-    out.answer
+    // The sheet with the moves of an accepted save: one save more, and its number for a mark of every moved lot.
+    #[tactic(auto, unfolding(crate::specs::Sheet::with_moves))]
+    fn moved(&self, bytes: &[u8]) -> Sheet
+        requires { self.now.saves < 65535 }
+        ensures { result ≡ with_moves self.now bytes.now }
+    {
+        let moves = moves_in(bytes);
+        let saves = self.saves + 1;
+        Sheet {
+            n: self.n,
+            order: place(self.order, moves),
+            saves,
+            marks: mark(self.marks, moves, saves),
+        }
+    }
+
+    // A save by value: the sheet afterwards, where it is accepted.
+    #[tactic(auto, unfolding(crate::specs::Sheet::saved), using(week::proofs::Numbered::number_some))]
+    pub fn put_moves(self, week: &Week<'_>, copy: u32, moves: &[u8]) -> Result<Sheet, Refusal>
+        ensures { saved_of self result ≡ saved (lent week.now) self copy moves.now }
+    {
+        self.judge(week, copy, moves)?;
+        Ok(self.moved(moves))
+    }
+
+    // A save on the one shared sheet, in place; refused, it is as it was.
+    pub fn save(&mut self, week: &Week<'_>, copy: u32, moves: &[u8]) -> Result<(), Refusal>
+        ensures { left (answer result) self.new ≡ saved (lent week.now) self.old copy moves.now }
+    {
+        *self = self.put_moves(week, copy, moves)?;
+        Ok(())
+    }
 }

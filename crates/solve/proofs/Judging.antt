@@ -1,16 +1,17 @@
 -- Each row that check judges, the first wrong one, and each of its answers.
 -- Assumes nothing.
-use mathlib.Core.Path.{◌≡◌, sym, ◌∙◌, ap, ap₂}
-use mathlib.Core.Bool.{Bool, true, false}
-use mathlib.Core.List.{List, []}
+use mathlib.Core.Path.{◌≡◌, refl, sym, ◌∙◌, ap, ap₂}
+use mathlib.Core.Bool.{Bool, true, false, ◌&&◌}
+use mathlib.Core.List.{List, [], ◌∷◌}
 use Prim.Native.Nat.{ℕ, ◌+◌, ◌-◌, ◌*◌, ◌≤◌, ◌<◌}
 use native.Mathlib.Omega.{arith}
 use native.Mathlib.Decide.{dec_lt}
+use lib.Dec.{eqb}
+use lib.Pointwise.{pointwise}
 use lib.ListN.{length, get_or, take, drop}
 use borrow.Author.Tests.{eq-eqb, ne_eqb, not-true, not-false}
 use Rattle.lex.specs.Every.{every}
 use Rattle.lex.specs.Lists.{same}
-use Rattle.lex.specs.Scan.{scan_from}
 use Rattle.lex.proofs.Every.{not_both, every_true, every_false}
 use Rattle.lex.proofs.Scan.{Picked, scan_picked}
 use Rattle.week.specs.Refusal.{unless}
@@ -26,12 +27,20 @@ use Rattle.solve.specs.Judging.{right, right_at, wrong_at, rows_of, first_wrong,
 use Rattle.robust.proofs.Rows.{set_fewer}
 use Rattle.solve.proofs.Service.{Ready}
 
+-- Lists that are one, as the code asks it
+same_pointwise : (r s : List ℕ) → pointwise eqb r s ≡ same r s
+unfolding same
+same_pointwise [] [] = refl
+same_pointwise [] (y ∷ s) = refl
+same_pointwise (x ∷ r) [] = refl
+same_pointwise (x ∷ r) (y ∷ s) = ap (λ (t : Bool). eqb x y && t) (same_pointwise r s)
+
 -- One row
 
 module _ (W : Week) (s A r : List ℕ) where
-  pub right_whole : breaks W.loss s A ≡ false → same r s ≡ right W s A r
+  pub right_whole : (t : Bool) → t ≡ pointwise eqb r s → breaks W.loss s A ≡ false → t ≡ right W s A r
   unfolding right is_break
-  right_whole e = rw e
+  right_whole t g e = g ∙ same_pointwise r s ∙ rw e
 
   pub right_mended : refusal W ≡ 0 → length r ≡ lots W → breaks W.loss s A ≡ true → mends_half (pair_rules W) (case W.numbers W.give s A) r ≡ right W s A r
   unfolding right is_break is_repair
@@ -52,19 +61,6 @@ module _ (W : Week) (s table : List ℕ) where
   unfolding first_wrong
   picked = scan_picked (rows_of W) (wrong_at W s table) 0 (omega arith)
 
-  pub wrong_not : (i : ℕ) → right_at W s table i ≡ true → wrong_at W s table i ≡ false
-  unfolding wrong_at
-  wrong_not i e = rw e
-
-  pub wrong_here : (i : ℕ) → right_at W s table i ≡ false → wrong_at W s table i ≡ true
-  unfolding wrong_at
-  wrong_here i e = rw e
-
-  -- a scan of as many rows as there are
-  pub scanned : (rows r : ℕ) → rows ≡ rows_of W → r ≡ scan_from rows (wrong_at W s table) 0 → r ≡ first_wrong W s table
-  unfolding first_wrong
-  scanned rows r e f = f ∙ ap (λ (k : ℕ). scan_from k (wrong_at W s table) 0) e
-
   -- the first wrong row is wrong, and those before it are right
   pub first_wrong_lem : first_wrong W s table < rows_of W → right_at W s table (first_wrong W s table) ≡ false
   unfolding wrong_at
@@ -82,6 +78,12 @@ module _ (W : Week) (s table : List ℕ) where
       | yes k ↦ absurd (not_both (h (first_wrong W s table) k) (first_wrong_lem (omega arith)))
       | no k ↦ omega arith
     ]
+  ]
+
+  pub first_none : ((j : ℕ) → j < rows_of W → right_at W s table j ≡ true) → first_wrong W s table ≡ rows_of W
+  first_none h = elim (dec_lt (first_wrong W s table) (rows_of W)) [
+    | yes l ↦ absurd (not_both (h (first_wrong W s table) l) (first_wrong_lem l))
+    | no l ↦ let m = picked.high in omega arith
   ]
 
   -- some row is wrong exactly if the first wrong one is a row
@@ -124,13 +126,11 @@ module _ (W : Week) (s table : List ℕ) where
       unfolding check_answer
       behind k e = runs_on (admits true two W) _ known.admitted (goes_on (keeps (pair_rules W) s) 6 _ (kept ∙ keep) e)
 
-      -- the first wrong row i, where there are so many rows
-      module _ (i rows : ℕ) (wrong : i ≡ first_wrong W s table) (counted : rows ≡ rows_of W) where
-        pub by_row : i < rows → Judged W s table 7 i
-        unfolding check_row
-        by_row h =
-            let k = behind 7 (stops_last (every (right_at W s table) (rows_of W)) 7 (wrong_some (omega arith))) in
-            record { answer = k; row = wrong ∙ rw (eq-eqb (check_answer W s table) 7 (sym k)) }
+      pub by_row : (i : ℕ) → i < rows_of W → first_wrong W s table ≡ i → Judged W s table 7 i
+      unfolding check_row
+      by_row i h e =
+          let k = behind 7 (stops_last (every (right_at W s table) (rows_of W)) 7 (wrong_some (omega arith))) in
+          record { answer = k; row = sym e ∙ rw (eq-eqb (check_answer W s table) 7 (sym k)) }
 
-        pub by_rows : rows ≤ i → Judged W s table 0 0
-        by_rows h = other 0 (behind 0 (goes_off (every (right_at W s table) (rows_of W)) 7 (wrong_none (omega arith)))) (λ z. omega arith)
+      pub by_rows : first_wrong W s table ≡ rows_of W → Judged W s table 0 0
+      by_rows e = other 0 (behind 0 (goes_off (every (right_at W s table) (rows_of W)) 7 (wrong_none (omega arith)))) (λ z. omega arith)

@@ -9,13 +9,17 @@ use native.Mathlib.Omega.{arith}
 use lib.Dec.{eqb}
 use lib.ListN.{length, take}
 use borrow.Author.Tests.{eqb-true, eq-eqb, ne_eqb}
+use Rattle.std.specs.Prelude.{Result, Ok, Err}
 use Rattle.lex.specs.First.{is_found, or_old}
 use Rattle.lex.specs.Lists.{padded}
 use Rattle.lex.proofs.Every.{and_left, and_right}
 use Rattle.lex.proofs.First.{first_some}
+use Rattle.week.specs.declared.Refusal.{Refusal}
+use Rattle.week.specs.declared.Refusal.TheVariants as V
+use Rattle.week.specs.Refusal.{number, answer}
 use Rattle.week.specs.Rules.{keeps}
 use Rattle.week.specs.Tables.{Week, lots, pair_rules, numbers_ok, admits, refusal, joined}
-use Rattle.week.proofs.Rules.{keeps_closed}
+use Rattle.week.proofs.Standing.{keeps_closed}
 use Rattle.week.proofs.Tables.{Limits, limits, accepted, joined_admits, admits_two, admits_tables, halts, runs_on, stops, stops_last, goes_off}
 use Rattle.repair.specs.Break.{row_count}
 use Rattle.repair.specs.Service.{row_lengths}
@@ -33,9 +37,9 @@ numbers_fine W h = go (numbers_ok W.numbers) refl
     go false e = absurd (h (sym (stops (numbers_ok W.numbers) 1 _ e (λ z. omega arith))))
 
 -- numbers that are refused by 1 are so for every service
-pub numbers_refused : (W : Week) (two : Bool) → refusal W ≡ 1 → 1 ≡ admits true two W
+pub numbers_refused : (W : Week) (two : Bool) → 1 ≡ refusal W → 1 ≡ admits true two W
 unfolding joined
-numbers_refused W two e = sym (ap (joined true two) e) ∙ joined_admits true two W
+numbers_refused W two e = sym (ap (joined true two) (sym e)) ∙ joined_admits true two W
 
 -- a super solution has a slot for each lot
 pub super_long : (W : Week) (r : List ℕ) → first_super W ≡ some r → length r ≡ lots W

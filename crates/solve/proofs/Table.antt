@@ -8,44 +8,32 @@ use Prim.Native.Nat.{ℕ, ◌+◌, ◌-◌, ◌*◌, ◌≤◌, ◌<◌}
 use native.Mathlib.Omega.{arith}
 use native.Mathlib.Numerals.{add-one}
 use native.Mathlib.Nat.{suc-mul, zero-mul}
-use borrow.Rule.Slice.PartMut.{put_mid, same_len_mid}
-use lib.ListN.{length, get_or, take, drop, length-append, length-drop}
+use borrow.Rule.Slice.PartMut.{put_mid}
+use lib.ListN.{length, get_or, take, drop, length-append}
 use lib.Seq.{take_all, take-suc, take-length, length-take-le, take_at}
+use Rattle.std.specs.Prelude.{Some, None}
 use Rattle.lex.specs.First.{is_found, or_old}
-use Rattle.lex.specs.Lists.{padded}
+use Rattle.week.specs.declared.Order.{Order}
 use Rattle.week.specs.Tables.{Week, lots, pair_rules, refusal}
 use Rattle.week.proofs.Tables.{accepted}
-use Rattle.repair.specs.Break.{breaks, row_count}
+use Rattle.repair.specs.Break.{breaks, lost_sets, row_count}
+use Rattle.repair.specs.Found.{Gives}
 use Rattle.repair.specs.Repair.{case, repair_half}
 use Rattle.repair.proofs.Rows.{count_small}
-use Rattle.repair.proofs.Mends.{repair_half_lem, half_long, found_wide, found_take}
+use Rattle.repair.proofs.Mends.{repair_half_lem, half_long, found_take}
 use Rattle.robust.specs.Super.{is_break, repair_for, row_of, row_sets, table_of}
-use Rattle.robust.proofs.Rows.{count_most}
-use Rattle.robust.proofs.Table.{from_small, to_within}
+use Rattle.robust.proofs.Rows.{count_most, set_fewer}
+use Rattle.robust.proofs.Table.{to_within, row_size}
 
 -- One row
 
-module _ (W : Week) (s A : List ℕ) (fine : refusal W ≡ 0) (size : length s ≡ lots W) where
+module _ (W : Week) (s A : List ℕ) (fine : refusal W ≡ 0) where
   abbrev half : Option (List ℕ)
   half = repair_half (pair_rules W) (case W.numbers W.give s A)
 
-  copied : (t : List ℕ) → t ≡ take (lots W) s → t ≡ s
-  copied t e = e ∙ take_all (lots W) s (omega arith)
-
-  -- the order, as it is copied into a row of k bytes
-  pub copied_whole : (k : ℕ) (t : List ℕ) → k ≡ lots W → t ≡ take k s → t ≡ take (lots W) s
-  copied_whole k t e f = f ∙ ap (λ (m : ℕ). take m s) e
-
-  pub copied_size : (t : List ℕ) → t ≡ take (lots W) s → length t ≡ lots W
-  copied_size t e = ap length (copied t e) ∙ size
-
-  pub row_order : (t : List ℕ) → t ≡ take (lots W) s → breaks W.loss s A ≡ false → t ≡ row_of W s A
+  pub row_order : breaks W.loss s A ≡ false → s ≡ row_of W s A
   unfolding row_of is_break
-  row_order t e f = copied t e ∙ rw f
-
-  -- what was found has room for the row's lots
-  pub row_wide : (slots : List ℕ) → slots ≡ padded 24 (or_old half []) → lots W ≤ length slots
-  row_wide slots f = rw f (found_wide (lots W) half (accepted W fine).limits.few)
+  row_order f = rw f
 
   -- the row of a break
   row_break : breaks W.loss s A ≡ true → or_old half s ≡ row_of W s A
@@ -53,16 +41,16 @@ module _ (W : Week) (s A : List ℕ) (fine : refusal W ≡ 0) (size : length s �
   row_break b = rw (b, repair_half_lem (pair_rules W) (case W.numbers W.give s A) (accepted W fine).symmetric)
 
   -- none was found: the order stands
-  pub row_none : (t : List ℕ) → t ≡ take (lots W) s → is_found half ≡ false → breaks W.loss s A ≡ true → t ≡ row_of W s A
-  row_none t e f b = copied t e ∙ go half f ∙ row_break b
+  pub row_none : Gives half None → breaks W.loss s A ≡ true → s ≡ row_of W s A
+  row_none g b = go half (sym g.found) ∙ row_break b
     where
       go : (o : Option (List ℕ)) → is_found o ≡ false → s ≡ or_old o s
       go none f = refl
       go (some r) f = absurd (true≢false f)
 
   -- what was found is written over the order
-  pub row_mended : (t u slots : List ℕ) → t ≡ take (lots W) s → is_found half ≡ true → slots ≡ padded 24 (or_old half []) → u ≡ take (length t) slots → breaks W.loss s A ≡ true → u ≡ row_of W s A
-  row_mended t u slots e f g h b = h ∙ ap₂ take (copied_size t e) g ∙ found_take (lots W) half s (half_long (pair_rules W) (case W.numbers W.give s A)) f ∙ row_break b
+  pub row_mended : (to : Order) (k : ℕ) → k ≡ lots W → Gives half (Some to) → breaks W.loss s A ≡ true → take k to.slots ≡ row_of W s A
+  row_mended to k e g b = ap₂ take e g.slots ∙ found_take (lots W) half s (half_long (pair_rules W) (case W.numbers W.give s A)) (sym g.found) ∙ row_break b
 
 -- Rows one behind the other
 
@@ -88,19 +76,16 @@ unfolding flat_map
 flat_none f l t n = rw zero-mul
 
 -- the place of row i in the table of an accepted week
-module _ (W : Week) (table : List ℕ) (i rows : ℕ) (fine : refusal W ≡ 0) (counted : rows ≡ row_count (lots W) W.numbers.a) (room : length table ≡ row_count (lots W) W.numbers.a * lots W) (more : i < rows) where
-  small : rows ≤ 600
-  small = rw counted (count_small (lots W) W.numbers.a (accepted W fine).limits.few (accepted W fine).limits.breaks)
-
-  pub place_small : i * lots W ≤ 14400
-  place_small = from_small (lots W) i rows (accepted W fine).limits.few more small
+module _ (W : Week) (table : List ℕ) (i : ℕ) (fine : refusal W ≡ 0) (room : length table ≡ row_count (lots W) W.numbers.a * lots W) (more : i < row_count (lots W) W.numbers.a) where
+  small : row_count (lots W) W.numbers.a ≤ 600
+  small = count_small (lots W) W.numbers.a (accepted W fine).limits.few (accepted W fine).limits.breaks
 
   pub place_inside : i * lots W + lots W ≤ length table
-  place_inside = rw (room, ← counted) (to_within (lots W) i rows (accepted W fine).limits.few more small)
+  place_inside = rw room (to_within (lots W) i _ (accepted W fine).limits.few more small)
 
-  -- its loss has a number below those of two lots
-  pub place_loss : (1 ≤ lots W) × ((lots W ≤ 24) × (i < row_count (lots W) 2))
-  place_loss = let l = (accepted W fine).limits in (l.some, (l.few, let m = count_most (lots W) W.numbers.a l.breaks in omega arith))
+-- the loss of row i has a number below those of two lots
+pub place_loss : (W : Week) (i : ℕ) → refusal W ≡ 0 → i < row_count (lots W) W.numbers.a → (1 ≤ lots W) × ((lots W ≤ 24) × (i < row_count (lots W) 2))
+place_loss W i fine more = let l = (accepted W fine).limits in (l.some, (l.few, let m = count_most (lots W) W.numbers.a l.breaks in omega arith))
 
 -- A row written into its place: the rows before it stand, and it stands behind them
 
@@ -110,12 +95,6 @@ module _ (f : List ℕ → List ℕ) (l : List (List ℕ)) (n i k : ℕ) (table 
 
   length_before : length (take (i * n) table) ≡ i * n
   length_before = length-take-le (i * n) table (omega arith)
-
-  pub written_size : length written ≡ length table
-  written_size = same_len_mid (i * n) k table row (size ∙ sym mid)
-    where
-      mid : length (take k (drop (i * n) table)) ≡ n
-      mid = length-take-le k (drop (i * n) table) (rw length-drop (omega arith)) ∙ part
 
   pub written_rows : i < length l → take (i * n) table ≡ flat_map f (take i l) → row ≡ f (get_or l i []) → take ((i + 1) * n) written ≡ flat_map f (take (i + 1) l)
   written_rows h e g =
@@ -131,9 +110,13 @@ module _ (f : List ℕ → List ℕ) (l : List (List ℕ)) (n i k : ℕ) (table 
           let c = suc-mul i n in
           rw add-one (omega arith)
 
--- the part of the table that is lent for a row
-pub part_size : (n i : ℕ) (table : List ℕ) → i * n + n ≤ length table → length (take (i * n + n - i * n) (drop (i * n) table)) ≡ n
-part_size n i table h = length-take-le (i * n + n - i * n) (drop (i * n) table) (rw length-drop (omega arith)) ∙ omega arith
+-- row i of the table is written
+pub row_written : (W : Week) (s A table row : List ℕ) (i : ℕ) → refusal W ≡ 0 → length s ≡ lots W → length table ≡ row_count (lots W) W.numbers.a * lots W → i < row_count (lots W) W.numbers.a → A ≡ get_or (lost_sets (lots W) 2) i [] → row ≡ row_of W s A → take (i * lots W) table ≡ flat_map (row_of W s) (take i (row_sets W)) → take ((i + 1) * lots W) (put_mid (i * lots W) (i * lots W + lots W - i * lots W) table row) ≡ flat_map (row_of W s) (take (i + 1) (row_sets W))
+unfolding row_count
+row_written W s A table row i fine long room more a r e = written_rows (row_of W s) (row_sets W) (lots W) i _ table row (place_inside W table i fine room more) (omega arith) (ap length here ∙ row_size W s _ fine long) more e here
+  where
+    here : row ≡ row_of W s (get_or (row_sets W) i [])
+    here = r ∙ ap (row_of W s) (a ∙ sym (set_fewer (lots W) W.numbers.a i (accepted W fine).limits.breaks more))
 
 -- every row is written
 pub written_all : (W : Week) (s table : List ℕ) (i : ℕ) → i ≡ row_count (lots W) W.numbers.a → length table ≡ row_count (lots W) W.numbers.a * lots W → take (i * lots W) table ≡ flat_map (row_of W s) (take i (row_sets W)) → table ≡ table_of W s

@@ -1,16 +1,18 @@
 -- What the service check means: which rows are right, the first that is wrong, and its answers, for every input.
 -- Assumes nothing.
-use Rattle.std.specs.Prelude.{◌≡◌, Bool, true, not, cond, List, [], ℕ, eqb, get_or}
+use Rattle.std.specs.Prelude.{◌≡◌, Bool, true, not, cond, List, [], ℕ, ◌<◌, eqb, get_or, Option, Some, None, Result, Ok, Err}
 use Rattle.lex.specs.Every.{every}
 use Rattle.lex.specs.Lists.{same}
 use Rattle.lex.specs.Scan.{scan_from}
-use Rattle.week.specs.Refusal.{unless, or_else}
+use Rattle.week.specs.Refusal.{unless, or_else, number}
 use Rattle.week.specs.Rules.{keeps}
 use Rattle.week.specs.Tables.{Week, lots, pair_rules, admits}
 use Rattle.repair.specs.Break.{row_count, row_at}
 use Rattle.repair.specs.Repair.{case, is_repair}
 use Rattle.repair.specs.Service.{row_lengths}
 use Rattle.robust.specs.Super.{row_sets, is_break}
+use Rattle.solve.specs.declared.Fault.{Fault}
+use Rattle.solve.specs.declared.Fault.TheVariants.{Refused, Row}
 
 -- row r is right for the set in order s: some repair of a break, and the order itself where the set is none
 unfoldable pub right : Week → List ℕ → List ℕ → List ℕ → Bool
@@ -45,3 +47,22 @@ check_row W s table = cond (eqb (check_answer W s table) 7) (first_wrong W s tab
 pub record Judged (W : Week) (s table : List ℕ) (k i : ℕ) : Type 0 where
   pub answer : k ≡ check_answer W s table
   pub row : i ≡ check_row W s table
+
+-- What the code holds
+
+-- the first wrong row, or none
+abbrev pub FirstWrong : Week → List ℕ → List ℕ → Option ℕ → Type 0
+FirstWrong W s table None = first_wrong W s table ≡ rows_of W
+FirstWrong W s table (Some i) = (i < rows_of W) × (first_wrong W s table ≡ i)
+
+-- the answer of check: 0, or the number of its refusal
+abbrev pub judged_answer : {A : Type 0} → Result A Fault → ℕ
+judged_answer (Ok _) = 0
+judged_answer (Err (Refused r)) = number r
+judged_answer (Err (Row i)) = 7
+
+-- and the row number that comes with it
+abbrev pub judged_row : {A : Type 0} → Result A Fault → ℕ
+judged_row (Ok _) = 0
+judged_row (Err (Refused r)) = 0
+judged_row (Err (Row i)) = i

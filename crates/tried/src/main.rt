@@ -2,6 +2,7 @@
 #![tactic(auto)]
 
 use std::io;
+use week::Week;
 
 // A number and the end of a line.
 fn put_line(rt: &impl Print, number: u32) -> io::Result<()> {
@@ -16,26 +17,24 @@ fn main(rt: HostRuntime) -> io::Result<()> {
     let mut loss = [0u16; 24];
     let mut give = [0u16; 24];
     let mut ties = [0u16; 9216];
-    let reading = block::read(&file[..size], &mut domain, &mut loss, &mut give, &mut ties);
-    if reading.answer != 0 {
-        print!(rt; "refused ")?;
-        return put_line(&rt, reading.answer);
-    }
-    let n = reading.numbers.n;
+    let numbers = match block::read(&file[..size], &mut domain, &mut loss, &mut give, &mut ties) {
+        Ok(numbers) => numbers,
+        Err(refusal) => {
+            print!(rt; "refused ")?;
+            return put_line(&rt, refusal.number());
+        }
+    };
+    let n = numbers.n;
     if 24 < n {
         return Ok(());
     }
     let lots = n as usize;
-    let words = n * n * 16;
-    if 9216 < words {
-        return Ok(());
-    }
-    let tried = solve::tried(
-        reading.numbers,
-        &domain[..lots],
-        &loss[..lots],
-        &give[..lots],
-        &ties[..words as usize],
-    );
-    put_line(&rt, tried)
+    let week = Week {
+        numbers,
+        domain: &domain[..lots],
+        loss: &loss[..lots],
+        give: &give[..lots],
+        ties: &ties[..lots * lots * 16],
+    };
+    put_line(&rt, solve::tried(&week))
 }

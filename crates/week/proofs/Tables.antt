@@ -10,13 +10,13 @@ use lib.Dec.{eqb}
 use lib.ListN.{length, get_or}
 use borrow.Author.Tests.{leb-true, le-leb, eqb-true, eqb-false, eq-eqb, ne_eqb, not-true}
 use Rattle.lex.specs.Every.{imp, every}
-use Rattle.lex.proofs.Every.{both, and_left, and_right, false_of, not_both, same_truth, imp_in, imp_out, each, each_all, every_true, every_at}
+use Rattle.lex.proofs.Every.{both, and_left, and_right, false_of, not_both, same_truth, imp_in, imp_out, each, each_all, every_true, every_at, every_cong}
 use Rattle.week.specs.declared.Numbers.{Numbers}
 use Rattle.week.specs.Rules.{Rules, bit_of, inside, in_domain, tie_word, together, keeps, keeps_half}
 use Rattle.week.specs.Refusal.{unless, or_else}
 use Rattle.week.specs.Tables.{Week, lots, pair_rules, refusal, admits, joined, number_tests, numbers_ok, length_tests, lengths_ok, words_ok, bit_ok, word_ok, may_have, pair_ok, lot_ties_ok, lot_ties_half, ties_ok}
 use Rattle.week.proofs.Words.{bit_zero, inside_at}
-use Rattle.week.proofs.Rules.{Symmetric, keeps_half_lem}
+use Rattle.week.proofs.Standing.{Symmetric, keeps_half_lem}
 
 -- Chains of checks
 
@@ -100,9 +100,6 @@ limits N e =
 pub numbers_good : (N : Numbers) → Limits N → true ≡ numbers_ok N
 unfolding numbers_ok
 numbers_good N l = sym (each_all (number_tests N) (le-leb _ _ l.some, (le-leb _ _ l.few, (le-leb _ _ l.breaks, (le-leb _ _ l.others, (le-leb _ _ l.alternative, (le-leb _ _ l.gap, (l.gapless, (le-leb _ _ l.helper, tt)))))))))
-
-pub numbers_bad : (N : Numbers) → (Limits N → ⊥) → false ≡ numbers_ok N
-numbers_bad N h = sym (false_of (numbers_ok N) (λ e. h (limits N e)))
 
 -- 2
 
@@ -235,13 +232,8 @@ module _ (R : Rules) where
         (every_true (λ w. imp (bit_of word w) (bit_of (may_have R.domain p q v) w)) 16 (λ w l. imp_in (bit_of word w) (bit_of (may_have R.domain p q v) w)
         (λ b. let r = bit_read p q v w (every_at (bit_ok R p q v) 16 w t l) in bit_have p q v w (r.apart b) (r.here b) (r.there b)))) e))
 
-    -- a bit does not agree with its mirror
-    pub word_unlike : (w : ℕ) → w < 16 → (together R p v q w ≡ together R q w p v → ⊥) → false ≡ word_ok R p q v
-    unfolding word_ok
-    word_unlike w l h = sym (false_of (every (bit_ok R p q v) 16) (λ t. h (bit_read p q v w (every_at (bit_ok R p q v) 16 w t l)).mirror))
-
     -- a bit that is inside and agrees is right
-    pub bit_right : (w : ℕ) → inside word (may_have R.domain p q v) ≡ true → together R p v q w ≡ together R q w p v → bit_ok R p q v w ≡ true
+    bit_right : (w : ℕ) → inside word (may_have R.domain p q v) ≡ true → together R p v q w ≡ together R q w p v → bit_ok R p q v w ≡ true
     unfolding together
     bit_right w e m = bit_make p q v w (record {
       mirror = m;
@@ -249,6 +241,13 @@ module _ (R : Rules) where
       there = λ t. (have_bit p q v w (inside_at word (may_have R.domain p q v) w e t)).2;
       apart = λ t. (have_bit p q v w (inside_at word (may_have R.domain p q v) w e t)).0;
     })
+
+    -- so a word that is inside is right where each bit agrees with its mirror
+    pub word_mirrors : inside word (may_have R.domain p q v) ≡ true → every (λ w. beq (together R p v q w) (together R q w p v)) 16 ≡ word_ok R p q v
+    unfolding word_ok
+    word_mirrors e =
+        every_cong (λ w. beq (together R p v q w) (together R q w p v)) (bit_ok R p q v) 16
+        (λ w l. same_truth _ _ (λ t. bit_right w e (beq_same _ _ t)) (λ t. same_beq _ _ (bit_read p q v w t).mirror))
 
 -- What numbers and tables that are not refused satisfy
 
@@ -271,7 +270,7 @@ accepted W e =
       symmetric = ties_symmetric (pair_rules W) (passed_last (ties_ok (pair_rules W)) 4 (λ z. omega arith) r4);
     }
 
--- on them the code's half of the pairs decides what document 01 says
+-- on them the code's half of the pairs decides what `keeps` says
 pub accepted_keeps : (W : Week) → Accepted W → (s : List ℕ) → length s ≤ lots W → keeps (pair_rules W) s ≡ keeps_half (pair_rules W) s
 accepted_keeps W a s l = keeps_half_lem (pair_rules W) a.symmetric s l
 

@@ -147,10 +147,6 @@ inside_at x y v e b = imp_out (bit_of x v) (bit_of y v) (every_at (λ v. imp (bi
 
 -- Places in the tie table
 
--- a lot number is a byte and n is a u32: the place of a word is far below 2 ^ 64
-pub place_small : {p n : ℕ} → p < 256 → n < 2 ^ 32 → p * n ≤ 255 * 4294967295
-place_small {p} {n} h g = mul-le-mul {n₁ = p} {m₁ = n} {n₂ = 255} {m₂ = 4294967295} (omega arith) (omega arith)
-
 -- beyond the end of a table stands 0
 pub beyond : (l : List ℕ) (i : ℕ) → length l ≤ i → 0 ≡ get_or l i 0
 beyond l i h = sym (get_or-eq_default l 0 h)

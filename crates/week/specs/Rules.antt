@@ -2,6 +2,7 @@
 -- Lots are written p, q and slots v, w throughout; an order is the list of its lots' slots.
 -- Assumes nothing.
 use Rattle.std.specs.Prelude.{Bool, ◌&&◌, ◌||◌, not, List, ℕ, zero, suc, ◌+◌, ◌*◌, ◌/◌, ◌%◌, ◌^◌, eqb, ltb, length, get_or}
+use Rattle.week.specs.declared.Rules.{Rules as Held}
 use Rattle.lex.specs.Every.{imp, every, one_if}
 
 -- the lots of a week, their domain words and the tie table
@@ -12,6 +13,10 @@ pub record Rules : Type 0 where
 
 abbrev pub rules : ℕ → List ℕ → List ℕ → Rules
 rules n d t = record { lots = n; domain = d; ties = t }
+
+-- the same, as the code holds them
+abbrev pub rules_of : Held → Rules
+rules_of r = rules r.lots r.domain.now r.ties.now
 
 -- bit v of a 16-bit word; slots over 15 are in no word
 unfoldable pub bit_of : ℕ → ℕ → Bool
@@ -60,7 +65,7 @@ lot_stands R s p = every (pair_stands R s p) (length s)
 unfoldable pub keeps : Rules → List ℕ → Bool
 keeps R s = every (slot_stands R s) (length s) && every (lot_stands R s) (length s)
 
--- What the code tests, each pair once: it is `keeps` where the tie table is symmetric (proofs/Rules.antt, `keeps_half_lem`).
+-- What the code tests, each pair once: it is `keeps` where the tie table is symmetric (proofs/Standing.antt, `keeps_half_lem`).
 
 -- lot p in slot v may stand together with lot q where s has it
 unfoldable pub beside : Rules → List ℕ → ℕ → ℕ → ℕ → Bool

@@ -4,6 +4,7 @@ use Rattle.std.specs.Prelude.{Bool, true, ◌&&◌, not, cond, List, [], ◌∷�
 use Rattle.std.specs.Bool.{beq}
 use Rattle.lex.specs.Every.{imp, all, every}
 use Rattle.week.specs.declared.Numbers.{Numbers}
+use Rattle.week.specs.declared.Week.{Week as Lent}
 use Rattle.week.specs.Refusal.{unless, or_else}
 use Rattle.week.specs.Rules.{Rules, rules, bit_of, inside, in_domain, together}
 
@@ -16,6 +17,10 @@ pub record Week : Type 0 where
 
 abbrev pub week : Numbers → List ℕ → List ℕ → List ℕ → List ℕ → Week
 week N d l g t = record { numbers = N; domain = d; loss = l; give = g; ties = t }
+
+-- the same, as a caller lends it
+abbrev pub lent : Lent → Week
+lent w = week w.numbers w.domain.now w.loss.now w.give.now w.ties.now
 
 abbrev pub lots : Week → ℕ
 lots W = W.numbers.n

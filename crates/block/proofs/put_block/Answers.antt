@@ -1,7 +1,10 @@
--- `block::put_block` meets its contract: zero bytes, then number and content, then the check.
-use Rattle.week.specs.Tables.{week}
+-- `block::put_block` meets its contract: the body, then its check, and both into the part.
+use mathlib.Core.Path.{◌∙◌}
+use Rattle.week.specs.Tables.{lent}
 use Rattle.block.proofs.File.{block_put}
 use Rattle.block.proofs.put_block.Goals as goal
 
 pub returns : goal.returns
-returns c = block_put (week c.args.numbers c.args.domain.now c.args.loss.now c.args.give.now c.args.ties.now) c.args.b _ _ c.put_body.ensures c.fnv1a-check.ensures c.put_check.ensures c.copy_into.ensures
+returns c =
+    c.copy_from_slice-2.ensures.after
+    ∙ block_put (lent c.args.week.now) c.args.b c.put_body.ensures c.fnv1a.ensures c.to_le_bytes.ensures c.copy_from_slice.ensures.after

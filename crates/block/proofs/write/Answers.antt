@@ -1,28 +1,42 @@
 -- `block::write` meets its contract: each check in its turn, then every block.
-use mathlib.Core.Path.{◌≡◌, sym, ◌∙◌}
-use mathlib.Core.Bool.{true}
+use mathlib.Core.Path.{sym, ◌∙◌}
 use native.Mathlib.Omega.{arith}
-use Rattle.week.specs.Tables.{week, numbers_ok}
-use Rattle.block.specs.File.{write_refusal}
+use borrow.Author.Rules.{rules}
+use borrow.Author.Tests.{tests}
+use Rattle.std.proofs.lemmas.Result.{err_from_is_err_and}
+use Rattle.week.specs.Tables.{lent}
+use Rattle.week.proofs.Tables.{limits}
 use Rattle.block.proofs.Sizes.{blocks_small}
-use Rattle.block.proofs.Writing.{not_one, write_joined, write_one, write_length, write_refused, write_done}
-use Rattle.week.proofs.Tables.{Limits, limits}
+use Rattle.week.proofs.Numbered.{number_some}
+use Rattle.block.proofs.Writing.{numbers_pass, write_joined, write_length, write_numbers, write_refused, write_done}
 use Rattle.block.proofs.write.Goals as goal
 
-pub returns-then-judged-eq1 : goal.returns-then-judged-eq1
-returns-then-judged-eq1 c = write_refused (week c.args.numbers c.args.domain.now c.args.loss.now c.args.give.now c.args.ties.now) c.args.file.now (write_one (week c.args.numbers c.args.domain.now c.args.loss.now c.args.give.now c.args.ties.now) c.args.file.now (sym c.judge-judged.ensures ∙ c.if-judged-eq1.true)) (λ z. omega arith)
+pub returns-then-eq : goal.returns-then-eq
+returns-then-eq c = write_numbers (lent c.args.week.now) c.args.file.now c.judge-judged.ensures (search (rules, tests))
 
 pub blocks_for-requires : goal.blocks_for-requires
-blocks_for-requires c = ((let h1 : Limits c.args.numbers = limits _ (let h2 : numbers_ok c.args.numbers ≡ true = not_one (week c.args.numbers c.args.domain.now c.args.loss.now c.args.give.now c.args.ties.now) (λ e. c.if-judged-eq1.false (c.judge-judged.ensures ∙ e)) in h2) in h1).some, (let h3 : Limits c.args.numbers = limits _ (let h4 : numbers_ok c.args.numbers ≡ true = not_one (week c.args.numbers c.args.domain.now c.args.loss.now c.args.give.now c.args.ties.now) (λ e. c.if-judged-eq1.false (c.judge-judged.ensures ∙ e)) in h4) in h3).few)
+blocks_for-requires c = let l = limits _ (numbers_pass (lent c.args.week.now) c.judge-judged.ensures (search (rules, tests))) in (l.some, l.few)
 
 pub overflow_mul-fits : goal.overflow_mul-fits
-overflow_mul-fits c = omega (arith, blocks_small c.args.numbers.n (let h5 : Limits c.args.numbers = limits _ (let h6 : numbers_ok c.args.numbers ≡ true = not_one (week c.args.numbers c.args.domain.now c.args.loss.now c.args.give.now c.args.ties.now) (λ e. c.if-judged-eq1.false (c.judge-judged.ensures ∙ e)) in h6) in h5).few)
+overflow_mul-fits c =
+    let l = limits _ (numbers_pass (lent c.args.week.now) c.judge-judged.ensures (search (rules, tests))) in
+    omega (arith, blocks_small c.args.week.now.numbers.n l.few)
 
-pub returns-then-answer-ne0 : goal.returns-then-answer-ne0
-returns-then-answer-ne0 c = write_refused (week c.args.numbers c.args.domain.now c.args.loss.now c.args.give.now c.args.ties.now) c.args.file.now (let h7 : c.join-answer.result ≡ write_refusal (week c.args.numbers c.args.domain.now c.args.loss.now c.args.give.now c.args.ties.now) c.args.file.now = c.join-answer.ensures ∙ write_joined (week c.args.numbers c.args.domain.now c.args.loss.now c.args.give.now c.args.ties.now) c.args.file.now c.blocks_for.ensures c.judge-judged.ensures in h7) c.if-answer-ne0.true
+pub returns-in_err-join : goal.returns-in_err-join
+returns-in_err-join c =
+    let W = lent c.args.week.now in
+    let p = err_from_is_err_and c.from_residual.result c.from_residual.ensures.1 in
+    let e = write_joined W c.args.file.now c.blocks_for.ensures c.judge-judged.ensures in
+    rw (p.1, p.2) (write_refused W c.args.file.now (c.in_err-join.ensures ∙ e) (number_some _))
 
 pub put_blocks-requires : goal.put_blocks-requires
-put_blocks-requires c = ((let h8 : numbers_ok c.args.numbers ≡ true = not_one (week c.args.numbers c.args.domain.now c.args.loss.now c.args.give.now c.args.ties.now) (λ e. c.if-judged-eq1.false (c.judge-judged.ensures ∙ e)) in h8), write_length (week c.args.numbers c.args.domain.now c.args.loss.now c.args.give.now c.args.ties.now) c.args.file.now (sym (let h9 : c.join-answer.result ≡ write_refusal (week c.args.numbers c.args.domain.now c.args.loss.now c.args.give.now c.args.ties.now) c.args.file.now = c.join-answer.ensures ∙ write_joined (week c.args.numbers c.args.domain.now c.args.loss.now c.args.give.now c.args.ties.now) c.args.file.now c.blocks_for.ensures c.judge-judged.ensures in h9) ∙ c.if-answer-ne0.false))
+put_blocks-requires c =
+    let W = lent c.args.week.now in
+    let e = write_joined W c.args.file.now c.blocks_for.ensures c.judge-judged.ensures in
+    (numbers_pass W c.judge-judged.ensures (search (rules, tests)), write_length W c.args.file.now (sym (c.in_ok-join.ensures ∙ e)))
 
 pub returns : goal.returns
-returns c = write_done (week c.args.numbers c.args.domain.now c.args.loss.now c.args.give.now c.args.ties.now) c.args.file.now (sym (let h10 : c.join-answer.result ≡ write_refusal (week c.args.numbers c.args.domain.now c.args.loss.now c.args.give.now c.args.ties.now) c.args.file.now = c.join-answer.ensures ∙ write_joined (week c.args.numbers c.args.domain.now c.args.loss.now c.args.give.now c.args.ties.now) c.args.file.now c.blocks_for.ensures c.judge-judged.ensures in h10) ∙ c.if-answer-ne0.false) c.put_blocks.ensures
+returns c =
+    let W = lent c.args.week.now in
+    let e = write_joined W c.args.file.now c.blocks_for.ensures c.judge-judged.ensures in
+    write_done W c.args.file.now (sym (c.in_ok-join.ensures ∙ e)) c.put_blocks.ensures

@@ -1,76 +1,69 @@
 -- `finish::finish` meets its contract: the slots of the lot that is next are tried one after the other, each failure with its reason; fewer lots are left to
 -- place at each call. Assumes nothing.
-use mathlib.Core.Path.{◌≡◌, refl, sym}
+use mathlib.Core.Path.{◌≡◌, sym, ◌∙◌, ap}
+use Prim.Native.Nat.{ℕ}
 use native.Mathlib.Omega.{arith}
-use lib.ListN.{length-set}
-use borrow.Author.Tests.{not-true, not-false}
+use lib.ListN.{get_or}
+use borrow.Author.Tests.{ltb-false}
 use Rattle.lex.specs.Every.{count}
 use Rattle.parts.specs.Part.{unplaced}
-use Rattle.finish.proofs.Search.{week_few, low_slot, answer_none, next_less, answer_next, answer_jump, held_next, next_lot}
+use Rattle.week.specs.Rules.{bit_of}
+use Rattle.finish.proofs.Search.{week_few, low_slot, bound_own, held_out, starved_bound, starved_held, fed_going, answer_full, next_less, answer_next, answer_jump, held_next, next_of}
 use Rattle.finish.proofs.+finish.Goals as goal
 
-pub start-first-requires : goal.start-first-requires
-start-first-requires t c = (c.requires.0, (c.requires.1.0, c.requires.1.1.0))
+pub returns-in_default : goal.returns-in_default
+returns-in_default t c =
+    let b = rw c.in_default.is at c.requires.1.1.0 in
+    rw (c.as_order.ensures, c.in_default.is) (c.requires.1.0.size, answer_full c.requires.1.0 b c.args.most c.in_ok-judge.ensures (omega arith))
 
-pub returns-then-not-first : goal.returns-then-not-first
-returns-then-not-first t c = record { size = c.start-first.ensures.0; answer = rw (not-true c.start-first.result.is c.if-not-first.true) ((rw (not-true c.start-first.result.is c.if-not-first.true) at c.start-first.ensures.1) c.args.most) }
+pub blamed-why-requires : goal.blamed-why-requires
+blamed-why-requires t c = rw c.rules-rules.ensures.same (bound_own (next_of _ _ c.in-Some.is c.requires.1.0 c.requires.1.1.0) _ c.word_of-own.ensures)
 
-pub returns-then-numbers-x : goal.returns-then-numbers-x
-returns-then-numbers-x t c = record { size = c.start-first.ensures.0; answer = rw (not-false c.start-first.result.is c.if-not-first.false) ((rw (not-false c.start-first.result.is c.if-not-first.false) at c.start-first.ensures.1).0 c.args.most c.if-numbers-x.true) }
+pub slots-preserved-then-not-bit : goal.slots-preserved-then-not-bit
+slots-preserved-then-not-bit t c =
+    held_out (next_of _ _ c.in-Some.is c.requires.1.0 c.requires.1.1.0) c.slots.invariant
+    (sym (c.bit.ensures ∙ ap (λ (z : ℕ). bit_of z c.slots.v) c.word_of-own.ensures) ∙ c.if-not-bit.true)
 
-pub loop-numbers-init : goal.loop-numbers-init
-loop-numbers-init t c = (refl, omega arith, refl, (rw (not-false c.start-first.result.is c.if-not-first.false) at c.start-first.ensures.1).1 c.if-numbers-x.false)
+pub first_starved-requires : goal.first_starved-requires
+first_starved-requires t c = week_few (next_of _ _ c.in-Some.is c.requires.1.0 c.requires.1.1.0)
 
-pub slice_bounds-pick_slot-end : goal.slice_bounds-pick_slot-end
-slice_bounds-pick_slot-end t c = sym c.loop-numbers.invariant.3.size
+pub blamed-part-requires : goal.blamed-part-requires
+blamed-part-requires t c =
+    rw (c.rules-rules.ensures.same, c.place-with.ensures)
+    (starved_bound (next_of _ _ c.in-Some.is c.requires.1.0 c.requires.1.1.0) (low_slot c.slots-test.true c.requires.1.1.1) _ c.in-Some-first_starved.ensures)
 
-pub slice_bounds-pick_slot-end-in-loop-numbers : goal.slice_bounds-pick_slot-end-in-loop-numbers
-slice_bounds-pick_slot-end-in-loop-numbers t c = sym c.loop-numbers.invariant.2
-
-pub pick_slot-chosen-requires : goal.pick_slot-chosen-requires
-pick_slot-chosen-requires t c = ((next_lot c.requires.1.0 c.requires.1.1.0 c.if-numbers-x.false), c.loop-numbers.invariant.3, c.loop-numbers.invariant.2)
-
-pub returns-then-most-v : goal.returns-then-most-v
-returns-then-most-v t c = record { size = c.pick_slot-chosen.ensures.held.size; answer = answer_none (next_lot c.requires.1.0 c.requires.1.1.0 c.if-numbers-x.false) c.pick_slot-chosen.ensures c.args.most c.if-most-v.true }
-
-pub bounds-with-x : goal.bounds-with-x
-bounds-with-x t c = omega (arith, week_few (next_lot c.requires.1.0 c.requires.1.1.0 c.if-numbers-x.false), c.if-numbers-x.false)
-
-pub slice_bounds-choose-end : goal.slice_bounds-choose-end
-slice_bounds-choose-end t c = simp length-set (sym c.requires.1.0.size)
-
-pub slice_bounds-choose-end-in-loop-numbers : goal.slice_bounds-choose-end-in-loop-numbers
-slice_bounds-choose-end-in-loop-numbers t c = sym c.pick_slot-chosen.ensures.wide
+pub slots-preserved-in-Some-first_starved : goal.slots-preserved-in-Some-first_starved
+slots-preserved-in-Some-first_starved t c =
+    starved_held (next_of _ _ c.in-Some.is c.requires.1.0 c.requires.1.1.0) (low_slot c.slots-test.true c.requires.1.1.1) c.slots.invariant _
+    c.in-Some-first_starved.ensures _ _ (rw (c.rules-rules.ensures.same, c.place-with.ensures) at c.blamed-part.ensures) c.merge.ensures
 
 pub choose-y-requires : goal.choose-y-requires
-choose-y-requires t c = week_few (next_lot c.requires.1.0 c.requires.1.1.0 c.if-numbers-x.false)
+choose-y-requires t c = week_few (next_of _ _ c.in-Some.is c.requires.1.0 c.requires.1.1.0)
 
-pub slice_bounds-finish-end : goal.slice_bounds-finish-end
-slice_bounds-finish-end t c = sym c.pick_slot-chosen.ensures.wide
+pub finish-requires : goal.finish-requires
+finish-requires t c =
+    let next = next_of _ _ c.in-Some.is c.requires.1.0 c.requires.1.1.0 in
+    let low = low_slot c.slots-test.true c.requires.1.1.1 in
+    let fell : count (unplaced 16 c.args.at.now.order.now) c.args.at.now.week.numbers.n ≡ t = c.decreases in
+    let less = next_less next _ low _ c.place-with.ensures in
+    let own = sym (c.bit.ensures ∙ ap (λ (z : ℕ). bit_of z c.slots.v) c.word_of-own.ensures) ∙ c.if-not-bit.false in
+    (omega arith, (c.requires.0, (rw c.place-with.ensures (fed_going next low own c.in_default-first_starved.ensures), (c.choose-y.ensures, omega arith))))
 
-pub finish-tried-requires : goal.finish-tried-requires
-finish-tried-requires t c = let fell : count (unplaced 16 c.args.order) c.args.numbers.n ≡ t = c.decreases in let less = next_less (next_lot c.requires.1.0 c.requires.1.1.0 c.if-numbers-x.false) c.pick_slot-chosen.ensures (low_slot c.if-most-v.false c.requires.1.1.1) in (omega arith, (c.requires.0, (c.pick_slot-chosen.ensures.next (low_slot c.if-most-v.false c.requires.1.1.1), (c.choose-y.ensures, omega arith))))
+pub returns-in-Ok : goal.returns-in-Ok
+returns-in-Ok t c =
+    let next = next_of _ _ c.in-Some.is c.requires.1.0 c.requires.1.1.0 in
+    let e = rw c.place-with.ensures at c.in-Ok.ensures in
+    rw c.in-Some.is (e.0, answer_next next c.slots.invariant (low_slot c.slots-test.true c.requires.1.1.1) _ _ c.args.most e.1)
 
-pub returns-then-tried : goal.returns-then-tried
-returns-then-tried t c = record { size = c.finish-tried.ensures.size; answer = rw c.if-tried.true (answer_next (next_lot c.requires.1.0 c.requires.1.1.0 c.if-numbers-x.false) c.pick_slot-chosen.ensures (low_slot c.if-most-v.false c.requires.1.1.1) c.choose-y.result.0 c.finish-tried.result.order c.args.most (rw c.if-tried.true at c.finish-tried.ensures.answer)) }
+pub returns-then-not-is_placed : goal.returns-then-not-is_placed
+returns-then-not-is_placed t c =
+    let next = next_of _ _ c.in-Some.is c.requires.1.0 c.requires.1.1.0 in
+    let e = rw c.place-with.ensures at c.in-Err.ensures in
+    let apart = ltb-false (get_or c.in-Err.part.0 c.in-Some.x.0 0) 16 (sym c.if-not-is_placed.ensures) in
+    rw c.in-Some.is (e.0, answer_jump next c.slots.invariant (low_slot c.slots-test.true c.requires.1.1.1) _ _ e.1 c.args.most apart)
 
-pub bounds-tried-x : goal.bounds-tried-x
-bounds-tried-x t c = omega (arith, c.finish-tried.ensures.size, week_few (next_lot c.requires.1.0 c.requires.1.1.0 c.if-numbers-x.false), c.if-numbers-x.false)
-
-pub returns-then-tried-x-ge16 : goal.returns-then-tried-x-ge16
-returns-then-tried-x-ge16 t c = record { size = c.finish-tried.ensures.size; answer = rw c.if-tried.false (answer_jump (next_lot c.requires.1.0 c.requires.1.1.0 c.if-numbers-x.false) c.pick_slot-chosen.ensures (low_slot c.if-most-v.false c.requires.1.1.1) c.choose-y.result.0 c.finish-tried.result.order (rw c.if-tried.false at c.finish-tried.ensures.answer) c.args.most c.if-tried-x-ge16.true) }
-
-pub slice_bounds-merge-end : goal.slice_bounds-merge-end
-slice_bounds-merge-end t c = sym c.pick_slot-chosen.ensures.held.size
-
-pub merge-requires : goal.merge-requires
-merge-requires t c = (c.pick_slot-chosen.ensures.held.size, c.finish-tried.ensures.size)
-
-pub overflow_add-from : goal.overflow_add-from
-overflow_add-from t c = omega (arith, (low_slot c.if-most-v.false c.requires.1.1.1))
-
-pub loop-numbers-smaller : goal.loop-numbers-smaller
-loop-numbers-smaller t c = let l = c.pick_slot-chosen.ensures.low (low_slot c.if-most-v.false c.requires.1.1.1) in let h = (low_slot c.if-most-v.false c.requires.1.1.1) in omega arith
-
-pub loop-numbers-preserved : goal.loop-numbers-preserved
-loop-numbers-preserved t c = (omega arith, (let h = (low_slot c.if-most-v.false c.requires.1.1.1) in omega arith), c.pick_slot-chosen.ensures.wide, held_next (next_lot c.requires.1.0 c.requires.1.1.0 c.if-numbers-x.false) c.pick_slot-chosen.ensures (low_slot c.if-most-v.false c.requires.1.1.1) c.choose-y.result.0 c.finish-tried.result.order (rw c.if-tried.false at c.finish-tried.ensures.answer) _ c.merge.ensures)
+pub slots-preserved : goal.slots-preserved
+slots-preserved t c =
+    let next = next_of _ _ c.in-Some.is c.requires.1.0 c.requires.1.1.0 in
+    let e = rw c.place-with.ensures at c.in-Err.ensures in
+    held_next next c.slots.invariant (low_slot c.slots-test.true c.requires.1.1.1) _ _ e.1 _ c.merge-in-Err.ensures

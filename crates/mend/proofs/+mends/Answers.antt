@@ -1,92 +1,111 @@
 -- `mend::mends` meets its contract: the slots of the lot that is next are tried one after the other; fewer lots are left to decide at each call.
 use mathlib.Core.Path.{◌≡◌, sym, ◌∙◌, ap}
-use Prim.Native.Nat.{ℕ, ◌≤◌, ◌<◌}
+use mathlib.Core.Bool.{false}
+use Prim.Native.Nat.{ℕ, ◌<◌}
 use native.Mathlib.Omega.{arith}
-use lib.Bits.{bit_and, bit_or}
-use lib.Count.{ones}
-use lib.ListN.{length-set}
+use lib.Bits.{bit_or}
+use lib.ListN.{set}
+use Rattle.std.proofs.Common.{rules}
 use Rattle.lex.specs.Every.{count}
-use Rattle.week.specs.Tables.{week}
+use Rattle.week.specs.Tables.{lent}
 use Rattle.repair.specs.Found.{lots_of}
 use Rattle.parts.specs.Part.{unplaced}
-use Rattle.parts.proofs.Slots.{above_start}
-use Rattle.cuts.specs.Reasons.{Later}
 use Rattle.mend.specs.Sets.{minus}
-use Rattle.room.proofs.None.{room_none}
-use Rattle.mend.proofs.Moving.{moving_few, tells_held, tells_many, tells_done, tells_found, next_lot, next_spare, passed_clash, passed_held, passed_no, passed_all, moving_next, moving_less}
+use Rattle.mend.specs.Mend.{Tells}
+use Rattle.mend.proofs.Moving.{moving_few, tells_held, tells_many, tells_done, next_lot, next_spare, passed_clash, passed_held, passed_no, passed_all, moving_next, moving_less, asked_few, no_room}
 use Rattle.mend.proofs.+mends.Goals as goal
+use Rattle.mend.proofs.+mends.Goals.{then-not-bit-via-then-not-bit, then-not-bit-via-else-not-bit+then-not-may_go}
 
-pub returns-then-stopped-ne0 : goal.returns-then-stopped-ne0
-returns-then-stopped-ne0 t c = tells_held c.requires.0 (let h : 0 < bit_and c.without-others.result c.args.held = omega arith in rw c.without-others.ensures at h)
+pub returns-then-not-is_empty : goal.returns-then-not-is_empty
+returns-then-not-is_empty t c =
+    let h : 0 < c.bitand-stopped.result.0 = search rules in
+    tells_held c.requires.moving (rw (c.bitand-stopped.ensures, c.without-others.ensures) at h)
 
-pub returns-then-left-others : goal.returns-then-left-others
-returns-then-left-others t c = tells_many c.requires.0 (let h : c.args.left < ones c.without-others.result = omega arith in rw c.without-others.ensures at h)
-
-pub returns-then-not-tight : goal.returns-then-not-tight
-returns-then-not-tight t c = tells_done c.requires.0 c.if-forced-eq0.true
-
-pub slice_bounds-has_room-end : goal.slice_bounds-has_room-end
-slice_bounds-has_room-end t c = sym c.requires.0.size
+pub returns-then-moves-len : goal.returns-then-moves-len
+returns-then-moves-len t c = tells_many c.requires.moving (rw (c.len.ensures, c.without-others.ensures) at c.if-moves-len.true)
 
 pub has_room-requires : goal.has_room-requires
-has_room-requires t c = moving_few c.requires.0
+has_room-requires t c = asked_few c.args.case.now c.in-Some.at.now (rw c.in-Some.is at c.requires.room) (moving_few c.requires.moving)
 
-pub returns-then-has_room : goal.returns-then-has_room
-returns-then-has_room t c = tells_done c.requires.0 c.if-forced-eq0.true
+pub returns-in-Some : goal.returns-in-Some
+returns-in-Some t c =
+    no_room c.args.case.now c.in-Some.at.now (rw c.in-Some.is at c.requires.room) c.args.moves.now c.requires.moving (sym c.has_room.ensures ∙ c.if-not-has_room.true)
 
-pub returns-then-forced-eq0 : goal.returns-then-forced-eq0
-returns-then-forced-eq0 t c =
-    let given = c.requires.1 c.if-not-tight.false in
-    room_none (week c.args.numbers c.args.domain.now c.args.loss.now c.args.give.now c.args.ties.now) c.args.order.now (lots_of c.args.lost) c.args.m c.args.words.now c.args.groups.now c.args.left c.requires.0.struck given.forward given.exclusive c.requires.0.spent (sym c.has_room.ensures ∙ c.if-has_room.false)
+pub returns-in_default : goal.returns-in_default
+returns-in_default t c = let h : c.args.moves.now.forced.0 ≡ 0 = search rules in tells_done c.requires.moving h
 
-pub slice_bounds-open_word-end : goal.slice_bounds-open_word-end
-slice_bounds-open_word-end t c = sym c.requires.0.size
+pub returns-in_default-2 : goal.returns-in_default-2
+returns-in_default-2 t c = let h : c.args.moves.now.forced.0 ≡ 0 = search rules in tells_done c.requires.moving h
 
 pub open_word-own-requires : goal.open_word-own-requires
-open_word-own-requires t c = moving_few c.requires.0
+open_word-own-requires t c = moving_few c.requires.moving
 
-pub left_after-after-requires : goal.left_after-after-requires
-left_after-after-requires t c = next_spare c.requires.0 c.next_lot-x.result.0 c.next_lot-x.ensures (let h : ones c.without-others.result ≤ c.args.left = omega arith in rw c.without-others.ensures at h)
+pub left_after-left-requires : goal.left_after-left-requires
+left_after-left-requires t c =
+    next_spare c.requires.moving c.next_lot-x.result.0 c.next_lot-x.ensures (rw (c.len.ensures, c.without-others.ensures) at c.if-moves-len.false)
 
 pub only-here-requires : goal.only-here-requires
-only-here-requires t c = let a = next_lot c.requires.0 c.next_lot-x.result.0 c.next_lot-x.ensures in let b = moving_few c.requires.0 in omega arith
-
-pub loop-v-init : goal.loop-v-init
-loop-v-init t c = (omega arith, above_start (Later (week c.args.numbers c.args.domain.now c.args.loss.now c.args.give.now c.args.ties.now) c.args.order.now (lots_of c.args.lost)) c.args.numbers.n 16 c.args.m c.next_lot-x.result.0)
+only-here-requires t c =
+    let a = next_lot c.requires.moving c.next_lot-x.result.0 c.next_lot-x.ensures in
+    let b = moving_few c.requires.moving in
+    omega arith
 
 pub loop-v-preserved-then-not-bit : goal.loop-v-preserved-then-not-bit
-loop-v-preserved-then-not-bit t c = (omega arith, passed_clash c.requires.0 c.next_lot-x.result.0 c.next_lot-x.ensures c.open_word-own.result c.open_word-own.ensures c.loop-v.v c.loop-v-test.true (sym c.bit.ensures ∙ c.if-not-bit.true) c.loop-v.invariant.1)
+loop-v-preserved-then-not-bit t c =
+    let x = c.next_lot-x.result.0 in
+    let v = c.loop-v.v in
+    let own = c.open_word-own.result in
+    let word = c.open_word-own.ensures in
+    let low = c.loop-v-test.true in
+    let passed = c.loop-v.invariant in
+    elim c.then-not-bit.branch [
+      | then-not-bit-via-then-not-bit w ↦
+          passed_clash c.requires.moving x c.next_lot-x.ensures own word v low (sym c.bit.ensures ∙ w.if-not-bit.true) passed
+      | then-not-bit-via-else-not-bit+then-not-may_go w ↦
+          let out = sym w.may_go.ensures ∙ w.if-not-may_go.true in
+          passed_held c.requires.moving x c.next_lot-x.ensures own word v low (sym c.bit.ensures ∙ w.if-not-bit.false) out passed
+    ]
 
-pub loop-v-preserved-then-not-may_go : goal.loop-v-preserved-then-not-may_go
-loop-v-preserved-then-not-may_go t c = (omega arith, passed_held c.requires.0 c.next_lot-x.result.0 c.next_lot-x.ensures c.open_word-own.result c.open_word-own.ensures c.loop-v.v c.loop-v-test.true (sym c.bit.ensures ∙ c.if-not-bit.false) (sym c.may_go.ensures ∙ c.if-not-may_go.true) c.loop-v.invariant.1)
+pub bounds-next-from : goal.bounds-next-from
+bounds-next-from t c =
+    let a = next_lot c.requires.moving c.next_lot-x.result.0 c.next_lot-x.ensures in
+    let b = moving_few c.requires.moving in
+    let e = c.from.ensures in
+    omega arith
 
-pub bounds-moved-at : goal.bounds-moved-at
-bounds-moved-at t c = let a = next_lot c.requires.0 c.next_lot-x.result.0 c.next_lot-x.ensures in let b = moving_few c.requires.0 in omega (arith, c.requires.0.size)
+pub driven_set-driven-requires : goal.driven_set-driven-requires
+driven_set-driven-requires t c = moving_few c.requires.moving
 
-pub slice_bounds-clash_set-end : goal.slice_bounds-clash_set-end
-slice_bounds-clash_set-end t c = sym (rw length-set c.requires.0.size)
-
-pub clash_set-driven-requires : goal.clash_set-driven-requires
-clash_set-driven-requires t c = moving_few c.requires.0
-
-pub mends-found-requires : goal.mends-found-requires
-mends-found-requires t c =
-    let fell : count (unplaced 16 c.args.m) c.args.numbers.n ≡ t = c.decreases in
-    let own = sym c.bit.ensures ∙ c.if-not-bit.false in
+pub mends-requires : goal.mends-requires
+mends-requires t c =
+    let fell : count (unplaced 16 c.args.moves.now.slots) c.args.case.now.week.numbers.n ≡ t = c.decreases in
+    let W = lent c.args.case.now.week in
+    let x = c.next_lot-x.result.0 in
+    let v = c.loop-v.v in
+    let m = c.args.moves.now.slots in
+    let own = c.open_word-own.result in
+    let word = c.open_word-own.ensures in
+    let opened = sym c.bit.ensures ∙ c.if-not-bit.false in
     let go = sym c.may_go.ensures ∙ c.if-not-may_go.false in
-    let less = moving_less c.requires.0 c.next_lot-x.result.0 c.next_lot-x.ensures c.open_word-own.result c.open_word-own.ensures c.loop-v.v c.loop-v-test.true own go in (
+    let low = c.loop-v-test.true in
+    let less = moving_less c.requires.moving x c.next_lot-x.ensures own word v low opened go in
+    let k = c.driven_set-driven.result.0 in
+    let spare = next_spare c.requires.moving x c.next_lot-x.ensures (rw (c.len.ensures, c.without-others.ensures) at c.if-moves-len.false) in
+    let rest = c.bitor-next.ensures ∙ ap (λ (j : ℕ). bit_or j k) (c.without-rest.ensures ∙ ap (minus c.args.moves.now.forced.0) c.only-here.ensures) in
+    let left = c.left_after-left in
+    rw c.from.ensures (
       omega arith,
       (
-        moving_next c.requires.0 c.next_lot-x.result.0 c.next_lot-x.ensures c.open_word-own.result c.open_word-own.ensures c.loop-v.v c.loop-v-test.true own go c.clash_set-driven.result c.left_after-after.result _ c.clash_set-driven.ensures c.left_after-after.ensures (next_spare c.requires.0 c.next_lot-x.result.0 c.next_lot-x.ensures (rw c.without-others.ensures at c.if-left-others.false)) (ap (λ (k : ℕ). bit_or k c.clash_set-driven.result) (c.without-rest.ensures ∙ ap (minus c.args.forced) c.only-here.ensures)),
-        c.requires.1,
+        moving_next c.requires.moving x c.next_lot-x.ensures own word v low opened go k left.result _ (rw c.from.ensures at c.driven_set-driven.ensures) left.ensures spare rest,
+        c.requires.room,
       ),
     )
 
-pub returns-then-found : goal.returns-then-found
-returns-then-found t c = tells_found c.requires.0 c.next_lot-x.result.0 c.next_lot-x.ensures c.loop-v.v c.mends-found.result.is c.if-found.true c.mends-found.ensures
-
 pub loop-v-preserved : goal.loop-v-preserved
-loop-v-preserved t c = (omega arith, passed_no c.requires.0 c.next_lot-x.result.0 c.next_lot-x.ensures c.loop-v.v (rw c.if-found.false at c.mends-found.ensures) c.loop-v.invariant.1)
+loop-v-preserved t c =
+    let case = c.args.case.now in
+    let f : Tells (lent case.week) case.order.now (lots_of case.lost) (set c.args.moves.now.slots c.from.result c.loop-v.v) false = c.in-Err.ensures in
+    passed_no c.requires.moving c.next_lot-x.result.0 c.next_lot-x.ensures c.loop-v.v (rw c.from.ensures at f) c.loop-v.invariant
 
 pub returns : goal.returns
-returns t c = passed_all c.requires.0 c.next_lot-x.result.0 c.next_lot-x.ensures c.loop-v.v c.loop-v-test.false c.loop-v.invariant.1
+returns t c = passed_all c.requires.moving c.next_lot-x.result.0 c.next_lot-x.ensures c.loop-v.v c.loop-v-test.false c.loop-v.invariant

@@ -1,16 +1,29 @@
 -- `mend::repair_by` meets its contract.
-use Rattle.week.specs.Tables.{week}
+use mathlib.Core.Path.{ap₂, ◌∙◌}
+use lib.Bits.{bit_or}
+use Rattle.std.proofs.Common.{rules, tests}
+use Rattle.week.specs.Tables.{lent}
+use Rattle.mend.specs.Sets.{SetOf}
+use Rattle.mend.specs.Mend.{stuck}
 use Rattle.mend.proofs.Moving.{start_few, start_lots, moving_start, judged}
 use Rattle.mend.proofs.repair_by.Goals as goal
 
-pub held_set-held-requires : goal.held_set-held-requires
-held_set-held-requires c = start_few (week c.args.numbers c.args.domain.now c.args.loss.now c.args.give.now c.args.ties.now) c.args.order.now c.args.lost c.requires.0
+pub only-requires : goal.only-requires
+only-requires c = (start_lots (lent c.args.case.now.week) c.args.case.now.order.now c.args.case.now.lost c.requires.struck).0
 
-pub gone_set-gone-requires : goal.gone_set-gone-requires
-gone_set-gone-requires c = start_lots (week c.args.numbers c.args.domain.now c.args.loss.now c.args.give.now c.args.ties.now) c.args.order.now c.args.lost c.requires.0
+pub only-requires-2 : goal.only-requires-2
+only-requires-2 c = (start_lots (lent c.args.case.now.week) c.args.case.now.order.now c.args.case.now.lost c.requires.struck).1
 
-pub mends-requires : goal.mends-requires
-mends-requires c = (moving_start (week c.args.numbers c.args.domain.now c.args.loss.now c.args.give.now c.args.ties.now) c.args.order.now c.args.lost c.requires.0 c.held_set-held.result c.held_set-held.ensures c.gone_set-gone.result c.gone_set-gone.ensures, c.requires.1)
+pub set_of-requires-clause-few : goal.set_of-requires-clause-few
+set_of-requires-clause-few c = start_few (lent c.args.case.now.week) c.args.case.now.order.now c.args.case.now.lost c.requires.struck
+
+pub mends-requires-clause-moving : goal.mends-requires-clause-moving
+mends-requires-clause-moving c =
+    let case = c.args.case.now in
+    let held : SetOf case.week.numbers.n (stuck case.week.give.now case.order.now) c.set_of.result.0
+    = record { low = c.set_of.ensures.low; each = λ p l. let h = c.set_of.ensures.each (record { 0 = p }) l in search (rules, tests) } in
+    let gone = c.bitor-gone.ensures ∙ ap₂ bit_or c.only.ensures c.only-2.ensures in
+    moving_start (lent case.week) case.order.now case.lost c.requires.struck c.set_of.result.0 held c.bitor-gone.result.0 gone
 
 pub returns : goal.returns
-returns c = judged (week c.args.numbers c.args.domain.now c.args.loss.now c.args.give.now c.args.ties.now) c.args.order.now c.args.lost c.requires.0 c.mends.result.is c.mends.ensures
+returns c = judged (lent c.args.case.now.week) c.args.case.now.order.now c.args.case.now.lost c.requires.struck _ c.mends.ensures

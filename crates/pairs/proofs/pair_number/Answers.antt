@@ -11,10 +11,12 @@ small : (n p : ℕ) → n ≤ 24 → p ≤ 24 → p * (n + n - p - 1) ≤ 24 * 4
 small n p h g = mul-le-mul {n₁ = p} {m₁ = n + n - p - 1} {n₂ = 24} {m₂ = 48} g (omega arith)
 
 pub overflow_mul-result : goal.overflow_mul-result
-overflow_mul-result c = omega (arith, small c.args.n c.args.p.0 (omega arith) (omega arith))
+overflow_mul-result c = omega (arith, small c.args.n c.from-low.result (omega arith) (omega arith))
 
 pub overflow_add-result-2 : goal.overflow_add-result-2
-overflow_add-result-2 c = omega (arith, small c.args.n c.args.p.0 (omega arith) (omega arith))
+overflow_add-result-2 c = omega (arith, small c.args.n c.from-low.result (omega arith) (omega arith))
 
 pub returns : goal.returns
-returns c = sym (number_of c.args.n c.requires.1.1 c.args.p.0 c.args.q.0 c.requires.0 c.requires.1.0).formula
+returns c =
+    rw (c.from-low.ensures, c.from-high.ensures)
+    (sym (number_of c.args.n c.requires.1.1 c.args.p.0 c.args.q.0 c.requires.0 c.requires.1.0).formula)

@@ -1,18 +1,9 @@
--- `repair::all_ascend` meets its contract: the lots passed are below their next.
-use mathlib.Core.Path.{sym}
-use native.Mathlib.Omega.{arith}
-use Rattle.lex.proofs.Every.{every_none, every_step, every_false, every_end}
-use Rattle.repair.proofs.Break.{ascends_no, ascends_yes}
+-- `repair::all_ascend` meets its contract: each lot is below the next.
+use lib.Dec.{ltb}
+use Rattle.std.proofs.Common.{rules, tests}
+use Rattle.std.proofs.lemmas.List.Sorted.{answers_always}
+use Rattle.repair.proofs.Walks.{ascend_all}
 use Rattle.repair.proofs.all_ascend.Goals as goal
 
-pub loop-i-init : goal.loop-i-init
-loop-i-init c = (omega arith, every_none _)
-
-pub returns-then-lot_at : goal.returns-then-lot_at
-returns-then-lot_at c = sym (every_false _ _ c.loop-i.i (omega arith) (ascends_no _ _ _ c.lot_at-in-loop-i.ensures _ c.lot_at.ensures c.if-lot_at.true))
-
-pub loop-i-preserved : goal.loop-i-preserved
-loop-i-preserved c = (omega arith, every_step _ _ c.loop-i.invariant.1 (ascends_yes _ _ _ c.lot_at-in-loop-i.ensures _ c.lot_at.ensures c.if-lot_at.false))
-
 pub returns : goal.returns
-returns c = every_end _ c.loop-i.invariant.1 (omega arith)
+returns c = ascend_all _ _ (c.is_sorted_by.ensures.cases ltb (answers_always _ _ _ (λ f x r q k. search (rules, tests))))

@@ -1,23 +1,16 @@
 -- `repair::row_count` meets its contract.
 use mathlib.Core.Path.{◌≡◌, sym, ◌∙◌, ap}
-use Prim.Native.Nat.{◌-◌}
 use native.Mathlib.Omega.{arith}
-use Rattle.repair.proofs.Numbering.{count_two}
 use Rattle.repair.specs.Break.{row_count}
-use Rattle.repair.proofs.Rows.{count_none, count_one, product_small}
+use Rattle.repair.proofs.Numbering.{count_two}
+use Rattle.repair.proofs.Rows.{count_none, count_one}
 use Rattle.repair.proofs.row_count.Goals as goal
 
-pub returns-then-a-eq0 : goal.returns-then-a-eq0
-returns-then-a-eq0 c = rw c.if-a-eq0.true (sym (count_none _))
+pub returns-in-0 : goal.returns-in-0
+returns-in-0 c = rw c.in-0.is (sym (count_none _))
 
-pub returns-then-a-eq1 : goal.returns-then-a-eq1
-returns-then-a-eq1 c = rw c.if-a-eq1.true (sym (count_one _))
+pub returns-in-1 : goal.returns-in-1
+returns-in-1 c = rw c.in-1.is (sym (count_one _))
 
-pub overflow_mul-result : goal.overflow_mul-result
-overflow_mul-result c = omega (arith, product_small {x = c.args.n} {y = c.args.n - 1} c.requires.1.0 (omega arith))
-
-pub overflow_add-result : goal.overflow_add-result
-overflow_add-result c = omega (arith, product_small {x = c.args.n} {y = c.args.n - 1} c.requires.1.0 (omega arith))
-
-pub returns : goal.returns
-returns c = sym (ap (row_count c.args.n) (let h1 : c.args.a ≡ 2 = omega arith in h1) ∙ count_two c.args.n c.requires.1.0)
+pub returns-in_default : goal.returns-in_default
+returns-in_default c = let two : c.args.a ≡ 2 = omega arith in sym (ap (row_count c.args.n) two ∙ count_two c.args.n c.requires.1.0)

@@ -11,5 +11,6 @@ returns-then-i-lots c = lost_single c.args.i _ refl refl ∙ sym (set_single c.a
 
 pub returns : goal.returns
 returns c =
-    lost_numbered c.args.n c.requires.1.0 (c.args.i - c.args.n) _ c.pair_at-pair.ensures.0 c.pair_at-pair.ensures.1 (pair_of c.args.n c.requires.1.0 (c.args.i - c.args.n) (pair_row c.args.n c.requires.1.0 c.args.i (omega arith) c.requires.1.1))
+    lost_numbered c.args.n c.requires.1.0 (c.args.i - c.args.n) _ c.pair_at-pair.ensures.0 c.pair_at-pair.ensures.1
+    (pair_of c.args.n c.requires.1.0 (c.args.i - c.args.n) (pair_row c.args.n c.requires.1.0 c.args.i (omega arith) c.requires.1.1))
     ∙ sym (set_pair c.args.n c.args.i (omega arith))

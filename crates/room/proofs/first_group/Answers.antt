@@ -1,17 +1,11 @@
--- `room::first_group` meets its contract: the groups passed do not take the lot in.
-use mathlib.Core.Path.{refl, sym, ◌∙◌}
-use native.Mathlib.Omega.{arith}
-use Rattle.lex.proofs.Scan.{scan_miss, scan_hit, scan_end}
+-- `room::first_group` meets its contract: `find` asks the lots before, in turn.
+use mathlib.Core.Path.{refl, ◌∙◌}
+use Rattle.std.proofs.Common.{rules, tests}
+use Rattle.room.specs.Grouped.{takes_in}
+use Rattle.room.proofs.Finds.{find_range}
 use Rattle.room.proofs.first_group.Goals as goal
 
-pub loop-g-init : goal.loop-g-init
-loop-g-init c = (omega arith, refl)
-
-pub returns-then-takes_in : goal.returns-then-takes_in
-returns-then-takes_in c = scan_hit _ _ _ (omega arith) (sym c.takes_in.ensures ∙ c.if-takes_in.true) ∙ c.loop-g.invariant.1
-
-pub loop-g-preserved : goal.loop-g-preserved
-loop-g-preserved c = (omega arith, scan_miss _ _ _ (omega arith) (sym c.takes_in.ensures ∙ c.if-takes_in.false) ∙ c.loop-g.invariant.1)
-
 pub returns : goal.returns
-returns c = scan_end _ _ _ (omega arith) ∙ c.loop-g.invariant.1
+returns c =
+    c.unwrap_or.ensures
+    ∙ find_range _ _ _ c.find-first.result (takes_in c.args.rules.now.lots c.args.rules.now.ties.now c.args.groups.now c.args.p.0) c.args.p.0 refl (λ x b q k. search (rules, tests)) c.find-first.ensures.ran

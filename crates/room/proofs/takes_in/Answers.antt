@@ -1,21 +1,16 @@
--- `room::takes_in` meets its contract: the lots passed do not keep the lot out.
-use mathlib.Core.Path.{sym, ◌∙◌}
-use native.Mathlib.Omega.{arith}
-use Rattle.lex.proofs.Every.{every_none, every_step, every_false, every_end}
-use Rattle.room.proofs.Grouped.{takes_other, takes_own}
+-- `room::takes_in` meets its contract: `all` asks every lot before.
+use mathlib.Core.Path.{refl, sym, ◌∙◌}
+use Rattle.std.proofs.Common.{rules, tests}
+use Rattle.lex.proofs.Ranges.{all_range}
+use Rattle.room.specs.Grouped.{bears, takes_in}
 use Rattle.room.proofs.takes_in.Goals as goal
 
-pub returns-then-group_of-g : goal.returns-then-group_of-g
-returns-then-group_of-g c = takes_other _ _ _ _ _ _ c.group_of.ensures c.if-group_of-g.true
+pub returns-then-eq : goal.returns-then-eq
+unfolding takes_in
+returns-then-eq c =
+    rw (← c.group_of.ensures, sym c.eq.ensures ∙ c.if-eq.true)
+    (all_range _ _ _ _ (bears c.args.rules.now.lots c.args.rules.now.ties.now c.args.groups.now c.args.p.0 c.args.g.0) c.args.p.0 refl (λ x b q k. search (rules, tests)) c.all.ensures.ran)
 
-pub loop-q-init : goal.loop-q-init
-loop-q-init c = (omega arith, every_none _)
-
-pub returns-then-not-is_borne : goal.returns-then-not-is_borne
-returns-then-not-is_borne c = takes_own _ _ _ _ _ _ _ c.group_of.ensures c.if-group_of-g.false (sym (every_false _ _ c.loop-q.q (omega arith) (sym c.is_borne.ensures ∙ c.if-not-is_borne.true)))
-
-pub loop-q-preserved : goal.loop-q-preserved
-loop-q-preserved c = (omega arith, every_step _ _ c.loop-q.invariant.1 (sym c.is_borne.ensures ∙ c.if-not-is_borne.false))
-
-pub returns : goal.returns
-returns c = takes_own _ _ _ _ _ _ _ c.group_of.ensures c.if-group_of-g.false (every_end _ c.loop-q.invariant.1 (omega arith))
+pub returns-else-eq : goal.returns-else-eq
+unfolding takes_in
+returns-else-eq c = rw (← c.group_of.ensures, sym c.eq.ensures ∙ c.if-eq.false) c.if-eq.false

@@ -1,17 +1,9 @@
--- `sheet::all_stir` meets its contract: the moves passed are to other slots.
-use mathlib.Core.Path.{refl, sym, ◌∙◌}
-use native.Mathlib.Omega.{arith}
-use Rattle.sheet.proofs.Moves.{every_bad, every_more, every_done}
+-- `sheet::all_stir` meets its contract.
+use borrow.Author.Rules.{rules}
+use borrow.Author.Tests.{tests}
+use Rattle.sheet.specs.Moves.{stirs}
+use Rattle.sheet.proofs.Pairs.{all_moves}
 use Rattle.sheet.proofs.all_stir.Goals as goal
 
-pub loop-i-init : goal.loop-i-init
-loop-i-init c = (omega arith, refl)
-
-pub returns-then-not-move_stirs : goal.returns-then-not-move_stirs
-returns-then-not-move_stirs c = every_bad c.args.moves.now c.loop-i.i _ (omega arith) (sym c.move_stirs.ensures ∙ c.if-not-move_stirs.true) ∙ c.loop-i.invariant.1
-
-pub loop-i-preserved : goal.loop-i-preserved
-loop-i-preserved c = (omega arith, every_more c.args.moves.now c.loop-i.i _ (omega arith) (sym c.move_stirs.ensures ∙ c.if-not-move_stirs.false) ∙ c.loop-i.invariant.1)
-
 pub returns : goal.returns
-returns c = every_done c.args.moves.now c.loop-i.i _ (omega arith) ∙ c.loop-i.invariant.1
+returns c = all_moves (stirs c.args.order.now) _ _ _ _ _ c.iter.ensures.rest (λ x b q k. search (rules, tests)) c.all.ensures.ran

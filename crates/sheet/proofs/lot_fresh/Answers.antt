@@ -1,20 +1,12 @@
--- `sheet::lot_fresh` meets its contract: the lots passed are fresh.
-use mathlib.Core.Path.{sym, ◌∙◌}
-use native.Mathlib.Omega.{arith}
-use Rattle.lex.proofs.Every.{every_none, every_step, every_false, every_end}
-use Rattle.sheet.specs.Moves.{fresh_lot}
+-- `sheet::lot_fresh` meets its contract.
+use mathlib.Core.Path.{refl}
+use borrow.Author.Rules.{rules}
+use borrow.Author.Tests.{tests}
+use Rattle.lex.proofs.Ranges.{all_range}
+use Rattle.week.specs.Rules.{rules_of}
+use Rattle.sheet.specs.Moves.{fresh_at, fresh_lot}
 use Rattle.sheet.proofs.lot_fresh.Goals as goal
-
-pub loop-q-init : goal.loop-q-init
-loop-q-init c = (omega arith, every_none _)
-
-pub returns-then-not-mark_fresh : goal.returns-then-not-mark_fresh
-unfolding fresh_lot
-returns-then-not-mark_fresh c = sym (every_false _ _ c.loop-q.q (omega arith) (sym c.mark_fresh.ensures ∙ c.if-not-mark_fresh.true))
-
-pub loop-q-preserved : goal.loop-q-preserved
-loop-q-preserved c = (omega arith, every_step _ _ c.loop-q.invariant.1 (sym c.mark_fresh.ensures ∙ c.if-not-mark_fresh.false))
 
 pub returns : goal.returns
 unfolding fresh_lot
-returns c = every_end _ c.loop-q.invariant.1 (omega arith)
+returns c = all_range _ _ _ _ (fresh_at (rules_of c.args.rules.now) c.args.marks.now c.args.copy c.args.p.0) c.args.rules.now.lots refl (λ x b q k. search (rules, tests)) c.all.ensures.ran

@@ -1,26 +1,43 @@
 -- `sheet::open` meets its contract: each check in its turn.
-use mathlib.Core.Path.{◌≡◌, sym, ◌∙◌}
-use Prim.Native.Nat.{◌≤◌}
+use mathlib.Core.Path.{refl, sym, ◌∙◌, ap}
 use native.Mathlib.Omega.{arith}
-use lib.ListN.{length}
-use Rattle.week.specs.Tables.{week, refusal}
-use Rattle.week.proofs.Tables.{accepted}
-use Rattle.sheet.specs.Sheet.{zeros}
-use Rattle.sheet.proofs.Services.{ties_pass, open_early, open_week, open_length, open_six, open_none, open_refused, open_done, new_sheet_lem}
+use Rattle.std.proofs.lemmas.Result.{err_from_is_err_and}
+use Rattle.week.specs.declared.Refusal.TheVariants as V
+use Rattle.week.specs.Rules.{Rules}
+use Rattle.week.specs.Tables.{lent}
+use Rattle.sheet.specs.Sheet.{stands}
+use Rattle.week.proofs.Numbered.{number_some}
+use Rattle.sheet.proofs.Services.{few_lots, lawful, open_early, open_week, open_length, open_six, open_none, open_refused, open_done, new_sheet_lem}
 use Rattle.sheet.proofs.open.Goals as goal
 
-pub returns-then-answer-ne0 : goal.returns-then-answer-ne0
-returns-then-answer-ne0 c = open_refused (week c.args.numbers c.args.domain.now c.args.loss.now c.args.give.now c.args.ties.now) c.args.order.now _ _ (open_early (week c.args.numbers c.args.domain.now c.args.loss.now c.args.give.now c.args.ties.now) c.args.order.now c.judge-judged.ensures c.join-answer.ensures c.if-answer-ne0.true) c.if-answer-ne0.true c.no_sheet.ensures
+pub returns-in_err-join : goal.returns-in_err-join
+returns-in_err-join c =
+    let W = lent c.args.week.now in
+    let p = err_from_is_err_and c.from_residual.result c.from_residual.ensures.1 in
+    rw (p.1, p.2) (open_refused W c.args.order.now _ (open_early W c.args.order.now c.judge-judged.ensures c.in_err-join.ensures (number_some _)))
 
 pub lots_stand-requires : goal.lots_stand-requires
-lots_stand-requires c = let l = (let h2 : length c.args.order.now ≡ c.args.numbers.n = open_length (week c.args.numbers c.args.domain.now c.args.loss.now c.args.give.now c.args.ties.now) c.args.order.now c.judge-judged.ensures c.join-answer.ensures c.if-answer-ne0.false in h2) in ((let h3 : c.args.numbers.n ≤ 24 = (accepted (week c.args.numbers c.args.domain.now c.args.loss.now c.args.give.now c.args.ties.now) (let h4 : refusal (week c.args.numbers c.args.domain.now c.args.loss.now c.args.give.now c.args.ties.now) ≡ 0 = open_week (week c.args.numbers c.args.domain.now c.args.loss.now c.args.give.now c.args.ties.now) c.args.order.now c.judge-judged.ensures c.join-answer.ensures c.if-answer-ne0.false in h4)).limits.few in h3), (omega arith, ties_pass _ (let h1 : refusal (week c.args.numbers c.args.domain.now c.args.loss.now c.args.give.now c.args.ties.now) ≡ 0 = open_week (week c.args.numbers c.args.domain.now c.args.loss.now c.args.give.now c.args.ties.now) c.args.order.now c.judge-judged.ensures c.join-answer.ensures c.if-answer-ne0.false in h1)))
+lots_stand-requires c =
+    let W = lent c.args.week.now in
+    let l = lawful W _ c.rules.ensures.same (sym (open_week W c.args.order.now c.judge-judged.ensures c.in_ok-join.ensures refl)) in
+    let long = open_length W c.args.order.now c.judge-judged.ensures c.in_ok-join.ensures refl in
+    (l, omega arith)
 
 pub returns-then-not-lots_stand : goal.returns-then-not-lots_stand
-returns-then-not-lots_stand c = open_refused (week c.args.numbers c.args.domain.now c.args.loss.now c.args.give.now c.args.ties.now) c.args.order.now _ 6 (open_six (week c.args.numbers c.args.domain.now c.args.loss.now c.args.give.now c.args.ties.now) c.args.order.now c.judge-judged.ensures c.join-answer.ensures c.if-answer-ne0.false (sym c.lots_stand.ensures ∙ c.if-not-lots_stand.true)) (λ z. omega arith) c.no_sheet-then-not-lots_stand.ensures
+returns-then-not-lots_stand c =
+    let W = lent c.args.week.now in
+    let s = ap (λ (R : Rules). stands R c.args.order.now) (sym c.rules.ensures.same) ∙ sym c.if-not-lots_stand.ensures in
+    open_refused W c.args.order.now V.Order (open_six W c.args.order.now c.judge-judged.ensures c.in_ok-join.ensures refl s)
 
-pub pad-slots-requires : goal.pad-slots-requires
-pad-slots-requires c = let l = (let h5 : length c.args.order.now ≡ c.args.numbers.n = open_length (week c.args.numbers c.args.domain.now c.args.loss.now c.args.give.now c.args.ties.now) c.args.order.now c.judge-judged.ensures c.join-answer.ensures c.if-answer-ne0.false in h5) in ((let h6 : c.args.numbers.n ≤ 24 = (accepted (week c.args.numbers c.args.domain.now c.args.loss.now c.args.give.now c.args.ties.now) (let h7 : refusal (week c.args.numbers c.args.domain.now c.args.loss.now c.args.give.now c.args.ties.now) ≡ 0 = open_week (week c.args.numbers c.args.domain.now c.args.loss.now c.args.give.now c.args.ties.now) c.args.order.now c.judge-judged.ensures c.join-answer.ensures c.if-answer-ne0.false in h7)).limits.few in h6), omega arith)
+pub pad-requires : goal.pad-requires
+pad-requires c =
+    let W = lent c.args.week.now in
+    let few = few_lots W (open_week W c.args.order.now c.judge-judged.ensures c.in_ok-join.ensures refl) in
+    let long = open_length W c.args.order.now c.judge-judged.ensures c.in_ok-join.ensures refl in
+    (few, omega arith)
 
 pub returns : goal.returns
-unfolding zeros
-returns c = open_done (week c.args.numbers c.args.domain.now c.args.loss.now c.args.give.now c.args.ties.now) c.args.order.now _ (open_none (week c.args.numbers c.args.domain.now c.args.loss.now c.args.give.now c.args.ties.now) c.args.order.now c.judge-judged.ensures c.join-answer.ensures c.if-answer-ne0.false (sym c.lots_stand.ensures ∙ c.if-not-lots_stand.false)) (new_sheet_lem _ _ _ c.pad-slots.ensures)
+returns c =
+    let W = lent c.args.week.now in
+    let s = ap (λ (R : Rules). stands R c.args.order.now) (sym c.rules.ensures.same) ∙ sym c.if-not-lots_stand.ensures in
+    open_done W c.args.order.now _ (open_none W c.args.order.now c.judge-judged.ensures c.in_ok-join.ensures refl s) (new_sheet_lem _ _ _ _ c.default.ensures c.pad.ensures)

@@ -1,29 +1,36 @@
 -- `solve::solve` meets its contract: each answer in its turn.
-use mathlib.Core.Path.{◌≡◌, sym, ◌∙◌}
-use mathlib.Core.Bool.{true}
-use borrow.Author.Tests.{not-true, not-false}
-use Rattle.lex.specs.First.{is_found}
-use Rattle.week.specs.Tables.{week}
-use Rattle.robust.specs.Super.{first_super}
-use Rattle.solve.proofs.Service.{by_tables, Ready, ready, by_none, wide, put_size, by_search}
+use mathlib.Core.Path.{sym}
+use Rattle.std.proofs.lemmas.Result.{err_from_is_err_and}
+use Rattle.week.specs.Tables.{lent}
+use Rattle.week.proofs.Tables.{accepted}
+use native.Mathlib.Omega.{arith}
+use Rattle.week.proofs.Numbered.{number_some}
+use Rattle.solve.proofs.Service.{by_tables, ready, by_none, put_size, by_search}
 use Rattle.solve.proofs.solve.Goals as goal
 
-pub returns-then-refused-ne0 : goal.returns-then-refused-ne0
-returns-then-refused-ne0 c = by_tables _ _ _ _ c.table_admits-refused.ensures c.if-refused-ne0.true
+pub returns-in_err-table_admits : goal.returns-in_err-table_admits
+returns-in_err-table_admits c =
+    let p = err_from_is_err_and c.from_residual.result c.from_residual.ensures.1 in
+    rw (p.1, p.2) (by_tables (lent c.args.week.now) _ _ _ c.in_err-table_admits.ensures (number_some _))
 
-pub find_super-found-requires : goal.find_super-found-requires
-find_super-found-requires c = (let h1 : Ready (week c.args.numbers c.args.domain.now c.args.loss.now c.args.give.now c.args.ties.now) c.args.order.now c.args.table.now = ready (week c.args.numbers c.args.domain.now c.args.loss.now c.args.give.now c.args.ties.now) c.args.order.now c.args.table.now (sym c.table_admits-refused.ensures ∙ c.if-refused-ne0.false) in h1).fine
+pub find_super-requires : goal.find_super-requires
+find_super-requires c = (ready (lent c.args.week.now) c.args.order.now c.args.table.now (sym c.in_ok-table_admits.ensures)).fine
 
-pub returns-then-not-found : goal.returns-then-not-found
-returns-then-not-found c = by_none _ _ _ (let h2 : Ready (week c.args.numbers c.args.domain.now c.args.loss.now c.args.give.now c.args.ties.now) c.args.order.now c.args.table.now = ready (week c.args.numbers c.args.domain.now c.args.loss.now c.args.give.now c.args.ties.now) c.args.order.now c.args.table.now (sym c.table_admits-refused.ensures ∙ c.if-refused-ne0.false) in h2) (sym c.find_super-found.ensures.is ∙ not-true _ c.if-not-found.true)
+pub returns-in_default : goal.returns-in_default
+returns-in_default c = by_none (lent c.args.week.now) _ _ (ready _ _ _ (sym c.in_ok-table_admits.ensures)) (sym c.in_default.ensures.found)
 
-pub copy_slots-requires : goal.copy_slots-requires
-copy_slots-requires c = wide _ _ _ (let h3 : Ready (week c.args.numbers c.args.domain.now c.args.loss.now c.args.give.now c.args.ties.now) c.args.order.now c.args.table.now = ready (week c.args.numbers c.args.domain.now c.args.loss.now c.args.give.now c.args.ties.now) c.args.order.now c.args.table.now (sym c.table_admits-refused.ensures ∙ c.if-refused-ne0.false) in h3) _ c.find_super-found.ensures.slots
+pub put_slots-requires : goal.put_slots-requires
+put_slots-requires c =
+    let k = ready (lent c.args.week.now) c.args.order.now c.args.table.now (sym c.in_ok-table_admits.ensures) in
+    let l = (accepted _ k.fine).limits.few in
+    omega (arith, k.size)
 
 pub put_rows-requires : goal.put_rows-requires
 put_rows-requires c =
-    let k = (let h4 : Ready (week c.args.numbers c.args.domain.now c.args.loss.now c.args.give.now c.args.ties.now) c.args.order.now c.args.table.now = ready (week c.args.numbers c.args.domain.now c.args.loss.now c.args.give.now c.args.ties.now) c.args.order.now c.args.table.now (sym c.table_admits-refused.ensures ∙ c.if-refused-ne0.false) in h4) in
-    (k.fine, (put_size _ _ _ k (let h5 : is_found (first_super (week c.args.numbers c.args.domain.now c.args.loss.now c.args.give.now c.args.ties.now)) ≡ true = sym c.find_super-found.ensures.is ∙ not-false _ c.if-not-found.false in h5) _ _ c.find_super-found.ensures.slots c.copy_slots.ensures, k.room))
+    let k = ready (lent c.args.week.now) c.args.order.now c.args.table.now (sym c.in_ok-table_admits.ensures) in
+    (k.fine, (put_size _ _ _ k (sym c.in-Some.ensures.found) _ _ c.in-Some.ensures.slots c.put_slots.ensures, k.room))
 
 pub returns : goal.returns
-returns c = by_search _ _ _ (let h6 : Ready (week c.args.numbers c.args.domain.now c.args.loss.now c.args.give.now c.args.ties.now) c.args.order.now c.args.table.now = ready (week c.args.numbers c.args.domain.now c.args.loss.now c.args.give.now c.args.ties.now) c.args.order.now c.args.table.now (sym c.table_admits-refused.ensures ∙ c.if-refused-ne0.false) in h6) (let h7 : is_found (first_super (week c.args.numbers c.args.domain.now c.args.loss.now c.args.give.now c.args.ties.now)) ≡ true = sym c.find_super-found.ensures.is ∙ not-false _ c.if-not-found.false in h7) _ _ c.find_super-found.ensures.slots c.copy_slots.ensures _ c.put_rows.ensures
+returns c =
+    let k = ready (lent c.args.week.now) c.args.order.now c.args.table.now (sym c.in_ok-table_admits.ensures) in
+    by_search _ _ _ k (sym c.in-Some.ensures.found) _ _ c.in-Some.ensures.slots c.put_slots.ensures _ c.put_rows.ensures

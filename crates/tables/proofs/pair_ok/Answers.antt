@@ -1,20 +1,11 @@
--- `tables::pair_ok` meets its contract: the words passed are right.
-use mathlib.Core.Path.{sym, ◌∙◌}
-use native.Mathlib.Omega.{arith}
-use Rattle.lex.proofs.Every.{every_none, every_step, every_false, every_end}
-use Rattle.week.specs.Tables.{pair_ok}
+-- `tables::pair_ok` meets its contract: every word is right.
+use mathlib.Core.Path.{refl}
+use Rattle.std.proofs.Common.{rules, tests}
+use Rattle.lex.proofs.Ranges.{all_range}
+use Rattle.week.specs.Rules.{rules_of}
+use Rattle.week.specs.Tables.{word_ok, pair_ok}
 use Rattle.tables.proofs.pair_ok.Goals as goal
-
-pub loop-v-init : goal.loop-v-init
-loop-v-init c = (omega arith, every_none _)
-
-pub returns-then-not-word_ok : goal.returns-then-not-word_ok
-unfolding pair_ok
-returns-then-not-word_ok c = sym (every_false _ _ c.loop-v.v (omega arith) (sym c.word_ok.ensures ∙ c.if-not-word_ok.true))
-
-pub loop-v-preserved : goal.loop-v-preserved
-loop-v-preserved c = (omega arith, every_step _ _ c.loop-v.invariant.1 (sym c.word_ok.ensures ∙ c.if-not-word_ok.false))
 
 pub returns : goal.returns
 unfolding pair_ok
-returns c = every_end _ c.loop-v.invariant.1 (omega arith)
+returns c = all_range _ _ _ _ (word_ok (rules_of c.args.rules.now) c.args.p.0 c.args.q.0) _ refl (λ x b q k. search (rules, tests)) c.all.ensures.ran
