@@ -36,7 +36,7 @@ module _ (n a : ℕ) (order table A out : List ℕ) where
     order_length = eqb-true (length order) n (and_left (eqb (length order) n) (eqb (length table) (row_count n a * n)) (passed_last (row_lengths n a order table) 2 (λ z. omega arith) (passed_rest (row_numbers n a && lost_ok n 0 a A) 1 _ (λ z. omega arith) fine)))
 
     -- what row shows has n bytes
-    pub part_length : length (row_part n a order table A) ≡ n
+    part_length : length (row_part n a order table A) ≡ n
     unfolding row_part row_at
     part_length = go (length A) refl
       where
@@ -47,9 +47,13 @@ module _ (n a : ℕ) (order table A out : List ℕ) where
             let d = length-drop (row_number n A * n) table in
             rw (eq-eqb (row_answer n a order table A) 0 fine, ne_eqb (length A) 0 (λ z. omega arith)) (length-take-le n (drop (row_number n A * n) table) (omega arith))
 
-    pub shown_copied : length out ≡ n → (part o : List ℕ) → part ≡ row_part n a order table A → o ≡ part → Shown n a order table A out 0 o
+    pub shown_wide : length out ≡ n → (part : List ℕ) → part ≡ row_part n a order table A → length out ≤ length part
+    shown_wide h part p = let l = ap length p in let m = part_length in omega arith
+
+    pub shown_copied : length out ≡ n → (part o : List ℕ) → part ≡ row_part n a order table A → o ≡ take (length out) part → Shown n a order table A out 0 o
     unfolding shown_answer shown_order
     shown_copied h part o p c =
         let e = eq-eqb (row_answer n a order table A) 0 fine in
         let f = eq-eqb (length out) n h in
-        record { answer = rw (e, f); buffer = rw (e, f) (c ∙ p) }
+        let whole = take_all (length out) part (let l = ap length p in let m = part_length in omega arith) in
+        record { answer = rw (e, f); buffer = rw (e, f) (c ∙ (whole ∙ p)) }

@@ -143,7 +143,7 @@ fn show_row(
         return Err(Refusal::Lengths);
     }
     let run = repair::row(n, a, order, table, lost);
-    out.copy_from_slice(run);
+    repair::copy_slots(run, out);
     Ok(())
 }
 

@@ -289,7 +289,10 @@ pub fn copy_slots(slots: &[u8], out: &mut [u8])
     requires { length out.old ≤ length slots.now }
     ensures { out.new ≡ take (length out.old) slots.now }
 {
-    out.copy_from_slice(&slots[..out.len()]);
+    // Byte by byte: copy_from_slice would make the C archive ask for memmove, which it has not.
+    for (i, to) in out.iter_mut().enumerate() {
+        *to = slots[i];
+    }
 }
 
 // Whether the order and the answer's buffer have n bytes.

@@ -9,14 +9,10 @@ use native.Mathlib.Omega.{arith}
 use lib.Dec.{eqb}
 use lib.ListN.{length, take}
 use borrow.Author.Tests.{eqb-true, eq-eqb, ne_eqb}
-use Rattle.std.specs.Prelude.{Result, Ok, Err}
 use Rattle.lex.specs.First.{is_found, or_old}
 use Rattle.lex.specs.Lists.{padded}
 use Rattle.lex.proofs.Every.{and_left, and_right}
 use Rattle.lex.proofs.First.{first_some}
-use Rattle.week.specs.declared.Refusal.{Refusal}
-use Rattle.week.specs.declared.Refusal.TheVariants as V
-use Rattle.week.specs.Refusal.{number, answer}
 use Rattle.week.specs.Rules.{keeps}
 use Rattle.week.specs.Tables.{Week, lots, pair_rules, numbers_ok, admits, refusal, joined}
 use Rattle.week.proofs.Standing.{keeps_closed}

@@ -52,6 +52,10 @@ module _ (W : Week) (s A : List ℕ) (fine : refusal W ≡ 0) where
   pub row_mended : (to : Order) (k : ℕ) → k ≡ lots W → Gives half (Some to) → breaks W.loss s A ≡ true → take k to.slots ≡ row_of W s A
   row_mended to k e g b = ap₂ take e g.slots ∙ found_take (lots W) half s (half_long (pair_rules W) (case W.numbers W.give s A)) (sym g.found) ∙ row_break b
 
+-- the order, as it is copied into a row of k bytes
+pub order_copied : (W : Week) (s : List ℕ) (k : ℕ) (t : List ℕ) → length s ≡ lots W → k ≡ lots W → t ≡ take k s → t ≡ s
+order_copied W s k t size e f = f ∙ take_all k s (omega arith)
+
 -- Rows one behind the other
 
 module _ (f : List ℕ → List ℕ) where

@@ -1,7 +1,7 @@
 // Super solutions: the first one and its repair table; and the judgement of an order and table made elsewhere.
 #![tactic(auto)]
 
-ghost use Rattle.std.specs.Prelude.{◌≡◌, ◌*◌, ◌≤◌, length, take, true};
+ghost use Rattle.std.specs.Prelude.{◌≡◌, ◌*◌, ◌≤◌, length, true};
 ghost use Rattle.week.specs.Refusal.{answer};
 ghost use Rattle.week.specs.Tables.{lent, refusal, admits};
 ghost use Rattle.repair.specs.Service.{row_lengths};
@@ -14,7 +14,7 @@ ghost use Rattle.robust.specs.Super.{row_of, table_of};
 
 use finish::Tally;
 use repair::Case;
-use week::{Order, Refusal, Week};
+use week::{Refusal, Week};
 
 // Why check refuses an order and its table.
 #[derive(Clone, Copy, Debug, PartialEq, Eq)]
@@ -61,25 +61,17 @@ impl From<Result<(), Fault>> for Checked {
     }
 }
 
-// The slots of an order into a buffer, as many as it holds.
-fn put_slots(order: &Order, out: &mut [u8])
-    requires { length out.old ≤ 24 }
-    ensures { out.new ≡ take (length out.old) order.now.slots }
-{
-    out.copy_from_slice(&order.slots[..out.len()]);
-}
-
 // The row of a loss: the order, and over it the first repair if the loss is a break.
 fn put_row(case: &Case<'_>, row: &mut [u8])
     requires { (refusal (lent case.now.week) ≡ 0) × ((length case.now.order.now ≡ case.now.week.numbers.n) × (length row.old ≡ case.now.week.numbers.n)) }
     ensures { row.new ≡ row_of (lent case.now.week) case.now.order.now (lots_of case.now.lost) }
 {
-    row.copy_from_slice(case.order);
+    repair::copy_slots(case.order, row);
     if !robust::is_break(case) {
         return;
     }
     if let Some(to) = case.first_repair() {
-        put_slots(&to, row);
+        repair::copy_slots(&to.slots, row);
     }
 }
 
@@ -125,7 +117,7 @@ pub fn solve(week: &Week<'_>, order: &mut [u8], table: &mut [u8]) -> Result<(), 
     let Some(found) = finish::find_super(week, &mut tally) else {
         return Err(Refusal::NoSolution);
     };
-    put_slots(&found, order);
+    repair::copy_slots(&found.slots, order);
     put_rows(week, order, table);
     Ok(())
 }

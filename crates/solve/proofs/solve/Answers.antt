@@ -19,8 +19,8 @@ find_super-requires c = (ready (lent c.args.week.now) c.args.order.now c.args.ta
 pub returns-in_default : goal.returns-in_default
 returns-in_default c = by_none (lent c.args.week.now) _ _ (ready _ _ _ (sym c.in_ok-table_admits.ensures)) (sym c.in_default.ensures.found)
 
-pub put_slots-requires : goal.put_slots-requires
-put_slots-requires c =
+pub copy_slots-requires : goal.copy_slots-requires
+copy_slots-requires c =
     let k = ready (lent c.args.week.now) c.args.order.now c.args.table.now (sym c.in_ok-table_admits.ensures) in
     let l = (accepted _ k.fine).limits.few in
     omega (arith, k.size)
@@ -28,9 +28,9 @@ put_slots-requires c =
 pub put_rows-requires : goal.put_rows-requires
 put_rows-requires c =
     let k = ready (lent c.args.week.now) c.args.order.now c.args.table.now (sym c.in_ok-table_admits.ensures) in
-    (k.fine, (put_size _ _ _ k (sym c.in-Some.ensures.found) _ _ c.in-Some.ensures.slots c.put_slots.ensures, k.room))
+    (k.fine, (put_size _ _ _ k (sym c.in-Some.ensures.found) _ _ c.in-Some.ensures.slots c.copy_slots.ensures, k.room))
 
 pub returns : goal.returns
 returns c =
     let k = ready (lent c.args.week.now) c.args.order.now c.args.table.now (sym c.in_ok-table_admits.ensures) in
-    by_search _ _ _ k (sym c.in-Some.ensures.found) _ _ c.in-Some.ensures.slots c.put_slots.ensures _ c.put_rows.ensures
+    by_search _ _ _ k (sym c.in-Some.ensures.found) _ _ c.in-Some.ensures.slots c.copy_slots.ensures _ c.put_rows.ensures
