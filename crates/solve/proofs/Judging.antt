@@ -113,6 +113,10 @@ module _ (W : Week) (s table : List ℕ) where
   unfolding check_answer
   by_tables k e h = other k (halts (admits true two W) _ e h) (λ z. let m = admits_most true two W in omega arith)
 
+  -- the refusals 1 to 4 name no row
+  pub told_tables : (k : ℕ) → k ≡ admits true two W → k ≡ 7 → ⊥
+  told_tables k e z = let m = admits_most true two W in omega arith
+
   module _ (known : Ready W s table) where
     kept : keeps (pair_rules W) s ≡ keeps_half (pair_rules W) s
     kept = accepted_keeps W (accepted W known.fine) s (let n = known.size in omega arith)

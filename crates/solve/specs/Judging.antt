@@ -66,3 +66,9 @@ abbrev pub judged_row : {A : Type 0} → Result A Fault → ℕ
 judged_row (Ok _) = 0
 judged_row (Err (Refused r)) = 0
 judged_row (Err (Row i)) = i
+
+-- 7 comes from a row alone, with its number
+abbrev pub RowTold : {A : Type 0} → Result A Fault → Type 0
+RowTold (Ok _) = Unit {0}
+RowTold (Err (Refused r)) = number r ≡ 7 → ⊥
+RowTold (Err (Row i)) = Unit {0}

@@ -7,7 +7,7 @@ ghost use Rattle.week.specs.Tables.{lent, refusal, admits};
 ghost use Rattle.repair.specs.Service.{row_lengths};
 ghost use Rattle.solve.specs.Service.{Solved};
 ghost use Rattle.solve.specs.declared.Fault.TheVariants.{Refused};
-ghost use Rattle.solve.specs.Judging.{right, FirstWrong, judged_answer, judged_row, Judged};
+ghost use Rattle.solve.specs.Judging.{right, FirstWrong, judged_answer, judged_row, RowTold, Judged};
 ghost use Rattle.repair.specs.Break.{row_count};
 ghost use Rattle.repair.specs.Found.{lots_of};
 ghost use Rattle.robust.specs.Super.{row_of, table_of};
@@ -172,7 +172,8 @@ fn wrong_row(week: &Week<'_>, order: &[u8], table: &[u8]) -> Option<usize>
 // Judges an order and its repair table, whoever made them: they are accepted if the order is a super solution, the row of each break
 // some repair of it and every other row the order. Refuses with 1, 2, 3, 4, 6 or 7, and with 7 it gives the first wrong row.
 pub fn check(week: &Week<'_>, order: &[u8], table: &[u8]) -> Result<(), Fault>
-    ensures { Judged (lent week.now) order.now table.now (judged_answer result) (judged_row result) }
+    ensures judged { Judged (lent week.now) order.now table.now (judged_answer result) (judged_row result) }
+    ensures told { RowTold result }
 {
     table_admits(week, order, table)?;
     let rules = week.rules();

@@ -7,13 +7,16 @@ use Rattle.week.proofs.Tables.{accepted}
 use Rattle.repair.proofs.Rows.{count_small}
 use Rattle.week.proofs.Numbered.{number_some}
 use Rattle.solve.proofs.Service.{ready}
-use Rattle.solve.proofs.Judging.{by_tables, by_order, by_row, by_rows}
+use Rattle.solve.proofs.Judging.{by_tables, told_tables, by_order, by_row, by_rows}
 use Rattle.solve.proofs.check.Goals as goal
 
 pub returns-in_err-table_admits : goal.returns-in_err-table_admits
 returns-in_err-table_admits c =
     let p = err_from_is_err_and c.from_residual.result c.from_residual.ensures.1 in
-    rw (p.1, p.2) (by_tables (lent c.args.week.now) _ _ _ c.in_err-table_admits.ensures (number_some _))
+    record {
+      judged = rw (p.1, p.2) (by_tables (lent c.args.week.now) _ _ _ c.in_err-table_admits.ensures (number_some _));
+      told = rw (p.1, p.2) (told_tables (lent c.args.week.now) _ _ _ c.in_err-table_admits.ensures);
+    }
 
 pub keeps-requires : goal.keeps-requires
 keeps-requires c =
@@ -21,8 +24,8 @@ keeps-requires c =
     let l = (accepted _ k.fine).limits.few in
     omega (arith, k.size)
 
-pub returns-then-not-keeps : goal.returns-then-not-keeps
-returns-then-not-keeps c =
+pub returns-then-not-keeps-clause-judged : goal.returns-then-not-keeps-clause-judged
+returns-then-not-keeps-clause-judged c =
     let k = ready (lent c.args.week.now) c.args.order.now c.args.table.now (sym c.in_ok-table_admits.ensures) in
     by_order _ _ _ k (sym (rw c.rules-rules.ensures.same at c.keeps.ensures) ∙ c.if-not-keeps.true)
 
@@ -38,14 +41,14 @@ overflow_cast-result c =
     let m = count_small _ _ l.few l.breaks in
     omega (arith, c.in-Some.ensures.0)
 
-pub returns-in-Some : goal.returns-in-Some
-returns-in-Some c =
+pub returns-in-Some-clause-judged : goal.returns-in-Some-clause-judged
+returns-in-Some-clause-judged c =
     let k = ready (lent c.args.week.now) c.args.order.now c.args.table.now (sym c.in_ok-table_admits.ensures) in
     let keep = sym (rw c.rules-rules.ensures.same at c.keeps.ensures) ∙ c.if-not-keeps.false in
     by_row _ _ _ k keep _ c.in-Some.ensures.0 c.in-Some.ensures.1
 
-pub returns : goal.returns
-returns c =
+pub returns-clause-judged : goal.returns-clause-judged
+returns-clause-judged c =
     let k = ready (lent c.args.week.now) c.args.order.now c.args.table.now (sym c.in_ok-table_admits.ensures) in
     let keep = sym (rw c.rules-rules.ensures.same at c.keeps.ensures) ∙ c.if-not-keeps.false in
     by_rows _ _ _ k keep c.in_default.ensures
