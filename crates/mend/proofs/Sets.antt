@@ -2,14 +2,14 @@
 -- Assumes nothing.
 use mathlib.Core.Path.{◌≡◌, refl, sym, ◌∙◌, ap, ap₂, subst}
 use mathlib.Core.Bool.{Bool, true, false, ◌&&◌, ◌||◌, not, or-true, or-false}
-use Prim.Native.Nat.{ℕ, zero, suc, ◌+◌, ◌/◌, ◌%◌, ◌^◌, ◌<◌}
+use Prim.Native.Nat.{ℕ, zero, suc, ◌+◌, ◌*◌, ◌/◌, ◌%◌, ◌^◌, ◌<◌}
 use native.Mathlib.Decide.{dec_lt, ℕ_discrete}
 use native.Mathlib.Nat.{mod-lt, div-eq_of_lt, div-one, zero-div, pow-succ', pow-le-pow_right}
 use native.Mathlib.Omega.{arith}
 use lib.Bits.{bit_and, bit_or, and_le_l, or_lt, xor_lt}
 use lib.Count.{ones, ones_step, under, count_trailing_zeros}
 use lib.Dec.{eqb}
-use lib.Pow.{pow-lt}
+use lib.Pow.{pow-lt, shl_exact}
 use borrow.Author.Tests.{eq-eqb, ne_eqb}
 use Rattle.lex.specs.Every.{one_if, count}
 use Rattle.lex.proofs.Every.{and_left, not_both, false_of, count_cong}
@@ -154,3 +154,7 @@ module _ (P : Lot → Bool → Type 0) (n k : ℕ) (c : Answers P n k) where
       | no z ↦ c.1 p (omega arith)
     ],
   )
+
+-- The set of one lot, as the code makes it
+pub one_lot_lem : (p : ℕ) → p < 24 → 1 * 2 ^ p % 2 ^ 32 ≡ 2 ^ p
+one_lot_lem p h = shl_exact {a = 1} 1 p 32 (omega arith) (omega arith) ∙ omega arith

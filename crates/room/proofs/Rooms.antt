@@ -200,9 +200,13 @@ module _ {s groups : List ℕ} {word : ℕ → ℕ} {n : ℕ} {rooms : List Room
   pub first_long : length (take n rooms) ≡ n
   first_long = length-take-le n rooms (omega (arith, c.size))
 
-  pub first_enough : (left g : ℕ) → g < n → leb (lacks (get_or (take n rooms) g no_room).lots (get_or (take n rooms) g no_room).slots) left ≡ room_at s groups word n left g
+  -- group g lacks r slots
+  pub room_at_lem : (g : ℕ) → g < n → (left r : ℕ) → r ≡ lacks (get_or rooms g no_room).lots (get_or rooms g no_room).slots → room_at s groups word n left g ≡ leb r left
   unfolding room_at
-  first_enough left g l = rw (get_or-take n rooms g no_room l) (ap (λ (i : ℕ). leb i left) (ap₂ lacks (c.crowd g (omega arith)) (c.room g (omega arith))))
+  room_at_lem g l left r e = ap (λ (i : ℕ). leb i left) (ap₂ lacks (sym (c.crowd g (omega arith))) (sym (c.room g (omega arith))) ∙ sym e)
+
+  pub first_enough : (left g : ℕ) → g < n → leb (lacks (get_or (take n rooms) g no_room).lots (get_or (take n rooms) g no_room).slots) left ≡ room_at s groups word n left g
+  first_enough left g l = rw (get_or-take n rooms g no_room l) (sym (room_at_lem g l left (lacks (get_or rooms g no_room).lots (get_or rooms g no_room).slots) refl))
 
   pub first_least : (r : ℕ) → r ≡ least_of (slack_in (take n rooms)) (length (take n rooms)) → r ≡ least_of (slack_at s groups word n) n
   unfolding slack_in slack_at

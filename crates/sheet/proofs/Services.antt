@@ -15,7 +15,6 @@ use Rattle.std.proofs.lemmas.List.{drop-replicate}
 use Rattle.lex.specs.Lists.{padded}
 use Rattle.lex.proofs.Every.{each, each_all}
 use Rattle.week.specs.declared.Refusal.{Refusal}
-use Rattle.week.specs.declared.Refusal.TheVariants as V
 use Rattle.week.specs.Refusal.{unless, or_else, number}
 use Rattle.week.specs.Rules.{Rules, keeps, keeps_half}
 use Rattle.week.specs.Tables.{Week, lots, pair_rules, refusal, admits, joined, numbers_ok, lengths_ok, words_ok, ties_ok}
@@ -24,7 +23,7 @@ use Rattle.week.proofs.Tables.{stops, goes_on, stops_last, goes_off, passed_firs
 use Rattle.sheet.specs.declared.Sheet.{Sheet}
 use Rattle.sheet.specs.declared.Opened.{Opened}
 use Rattle.sheet.specs.Moves.{moves_of, moves_ok, fresh}
-use Rattle.sheet.specs.Sheet.{Lawful, blank, stands, open_answer, new_sheet, opened, opened_of, sound_marks, sound_tests, sound, copy_answer, result_ok, save_answer}
+use Rattle.sheet.specs.Sheet.{Lawful, zeros, blank, stands, open_answer, new_sheet, opened, opened_of, sound_marks, sound_tests, sound, copy_answer, result_ok, save_answer}
 use Rattle.week.proofs.Numbered.{number_some}
 
 -- Padding
@@ -114,10 +113,14 @@ module _ (W : Week) (o : List ℕ) {j k : ℕ} (judge : j ≡ refusal W) (join :
     unfolding open_answer
     open_none e = runs_on (admits true sized W) (unless (keeps (pair_rules W) o) 6) (sym open_judged ∙ z) (goes_off (keeps (pair_rules W) o) 6 (sym open_stands ∙ e))
 
+pub new_sheet_lem : (n : ℕ) (o s : List ℕ) → s ≡ padded 24 (take n o) → ◌≡◌ {A = Sheet} (record { n = n; order = s; saves = 0; marks = zeros }) (new_sheet n o)
+unfolding new_sheet
+new_sheet_lem n o s e = ap (λ (l : List ℕ). record { n = n; order = l; saves = 0; marks = zeros }) e
+
 -- a blank sheet with the week's number of lots and its order
-pub new_sheet_lem : (n : ℕ) (o s : List ℕ) (S : Sheet) → S ≡ blank → s ≡ padded 24 (take n o) → ◌≡◌ {A = Sheet} (record { n = n; order = s; saves = S.saves; marks = S.marks }) (new_sheet n o)
-unfolding new_sheet blank
-new_sheet_lem n o s S b e = rw (b, e)
+pub blank_sheet_lem : (n : ℕ) (o s : List ℕ) (S : Sheet) → S ≡ blank → s ≡ padded 24 (take n o) → ◌≡◌ {A = Sheet} (record { n = n; order = s; saves = S.saves; marks = S.marks }) (new_sheet n o)
+unfolding blank
+blank_sheet_lem n o s S b e = rw b (new_sheet_lem n o s e)
 
 -- Copy
 

@@ -7,7 +7,7 @@ use Rattle.week.specs.Rules.{Rules}
 use Rattle.week.specs.Tables.{lent}
 use Rattle.sheet.specs.Sheet.{stands}
 use Rattle.week.proofs.Numbered.{number_some}
-use Rattle.sheet.proofs.Services.{few_lots, lawful, open_early, open_week, open_length, open_six, open_none, open_refused, open_done, new_sheet_lem}
+use Rattle.sheet.proofs.Services.{few_lots, lawful, open_early, open_week, open_length, open_six, open_none, open_refused, open_done, blank_sheet_lem}
 use Rattle.sheet.proofs.open.Goals as goal
 
 pub returns-in_err-join : goal.returns-in_err-join
@@ -40,4 +40,4 @@ pub returns : goal.returns
 returns c =
     let W = lent c.args.week.now in
     let s = ap (λ (R : Rules). stands R c.args.order.now) (sym c.rules.ensures.same) ∙ sym c.if-not-lots_stand.ensures in
-    open_done W c.args.order.now _ (open_none W c.args.order.now c.judge-judged.ensures c.in_ok-join.ensures refl s) (new_sheet_lem _ _ _ _ c.default.ensures c.pad.ensures)
+    open_done W c.args.order.now _ (open_none W c.args.order.now c.judge-judged.ensures c.in_ok-join.ensures refl s) (blank_sheet_lem _ _ _ _ c.default.ensures c.pad.ensures)
