@@ -1,8 +1,8 @@
 // Which weeks are refused: the numbers, the lengths, the words of each lot and the tie table, judged in that order, refusals 1 to 4.
 #![tactic(auto)]
 
-ghost use Rattle.std.specs.Prelude.{◌≡◌, ◌≤◌, ◌<◌};
-ghost use Rattle.week.specs.Refusal.{answer};
+ghost use Rattle.std.specs.Prelude.{◌≡◌, ◌≤◌, ◌<◌, ℕ, eqb};
+ghost use Rattle.week.specs.Refusal.{answer, number};
 ghost use Rattle.week.specs.Rules.{rules_of};
 ghost use Rattle.week.specs.Tables.{lent, refusal, joined, numbers_ok, lengths_ok, lot_ok, lot_ok_at, words_ok, word_ok, may_have, pair_ok, lot_ties_half, ties_ok};
 
@@ -128,16 +128,81 @@ pub fn judge(week: &Week<'_>) -> Result<(), Refusal>
     Ok(())
 }
 
+// A judgement that join hands on: whether there is a refusal and which, or only its number.
+pub trait Judgement: Copy {
+    // The number that it tells, 0 where nothing is wrong.
+    ghost told: { Self → ℕ };
+
+    // Whether it tells this refusal.
+    fn is(&self, refusal: Refusal) -> bool
+        ensures { result ≡ eqb (told self.now) (number refusal) };
+
+    // The judgement that tells this refusal.
+    fn refuse(refusal: Refusal) -> Self
+        ensures { told result ≡ number refusal };
+}
+
+impl Judgement for Result<(), Refusal> {
+    ghost told = { answer };
+
+    fn is(&self, refusal: Refusal) -> bool {
+        *self == Err(refusal)
+    }
+
+    fn refuse(refusal: Refusal) -> Result<(), Refusal> {
+        Err(refusal)
+    }
+}
+
+// Any number is a judgement, also one that no refusal has.
+impl Judgement for u32 {
+    ghost told = { λ n. n };
+
+    fn is(&self, refusal: Refusal) -> bool {
+        *self == refusal.number()
+    }
+
+    fn refuse(refusal: Refusal) -> u32 {
+        refusal.number()
+    }
+}
+
 // Why a service refuses, from the judgement of its numbers and tables and from its own tests of kind 1 and of kind 2.
 #[tactic(auto, unfolding(week::specs::Tables::joined))]
-pub fn join(one: bool, two: bool, judged: Result<(), Refusal>) -> Result<(), Refusal>
-    ensures { answer result ≡ joined one two (answer judged) }
+pub fn join<J: Judgement>(one: bool, two: bool, judged: J) -> J
+    ensures { J.told result ≡ joined one two (J.told judged) }
 {
-    if !one || judged == Err(Refusal::Numbers) {
-        return Err(Refusal::Numbers);
+    if !one || judged.is(Refusal::Numbers) {
+        return J::refuse(Refusal::Numbers);
     }
     if !two {
-        return Err(Refusal::Lengths);
+        return J::refuse(Refusal::Lengths);
     }
     judged
+}
+
+#[cfg(test)]
+mod tests {
+    use super::join;
+
+    // What `join` promises of a number, any number.
+    fn join_number(one: bool, two: bool, judged: u32) -> u32
+        ensures { result ≡ joined one two judged }
+    {
+        join(one, two, judged)
+    }
+
+    #[test]
+    fn joins_any_number(rt: HostRuntime) {
+        assert_eq!(rt; join(true, true, 77), 77);
+        for (one, two, judged, want) in [
+            (true, true, 0, 0),
+            (true, true, 77, 77),
+            (true, false, 77, 2),
+            (true, false, 1, 1),
+            (false, true, 77, 1),
+        ] {
+            assert_eq!(rt; join_number(one, two, judged), want, "of {judged}");
+        }
+    }
 }
