@@ -1,7 +1,7 @@
 // Which weeks are refused: the numbers, the lengths, the words of each lot and the tie table, judged in that order, refusals 1 to 4.
 #![tactic(auto)]
 
-ghost use Rattle.std.specs.Prelude.{◌≡◌, ◌≤◌, ◌<◌, ℕ, eqb};
+ghost use Rattle.std.specs.Prelude.{◌≡◌, not, cond, bit_and, ℕ, ◌^◌, ◌≤◌, ◌<◌, eqb, ltb};
 ghost use Rattle.week.specs.Refusal.{answer, number};
 ghost use Rattle.week.specs.Rules.{rules_of};
 ghost use Rattle.week.specs.Tables.{lent, refusal, joined, numbers_ok, lengths_ok, lot_ok, lot_ok_at, words_ok, word_ok, may_have, pair_ok, lot_ties_half, ties_ok};
@@ -76,13 +76,29 @@ fn may_have(rules: &Rules<'_>, p: Lot, q: Lot, v: Slot) -> u16
     }
 }
 
+// The word that has slot v alone; none where v is over 15.
+fn word_of_slot(v: Slot) -> u16
+    ensures { result ≡ cond (ltb v.0 16) (2 ^ v.0) 0 }
+{
+    if v.0 < 16 { 1 << v.0 } else { 0 }
+}
+
+// Whether two words have a slot in common.
+fn meets(word: u16, other: u16) -> bool
+    ensures { result ≡ not (eqb (bit_and word other) 0) }
+{
+    word & other != 0
+}
+
 // Refusal 4, of the word for lot p in slot v beside lot q: no bit outside the domains, and each bit agrees with its mirror.
 fn word_ok(rules: &Rules<'_>, p: Lot, q: Lot, v: Slot) -> bool
     ensures { result ≡ word_ok (rules_of rules.now) p.0 q.0 v.0 }
 {
     let word = rules.tie_word(p, v, q);
+    // One word for slot v, and no shift for each slot w: nearly all of a judgement's time goes here.
+    let own = word_of_slot(v);
     week::within(word, may_have(rules, p, q, v))
-        && (0..16).all(|w| week::bit(word, Slot(w)) == rules.may_stand(q, Slot(w), p, v))
+        && (0..16).all(|w| week::bit(word, Slot(w)) == meets(rules.tie_word(q, Slot(w), p), own))
 }
 
 // Refusal 4, of the 16 words of lot p beside lot q.
