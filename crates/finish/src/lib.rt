@@ -3,7 +3,7 @@
 // A slot over 15 means that a lot is not placed. A forward word has the slots that are left to a lot beside the placed ones.
 #![tactic(auto)]
 
-ghost use Rattle.std.specs.Prelude.{◌≡◌, ◌+◌, ◌≤◌, ◌<◌, true, length, set, MatchResult};
+ghost use Rattle.std.specs.Prelude.{◌≡◌, ℕ, ◌+◌, ◌≤◌, ◌<◌, true, length, get_or, set, MatchResult};
 ghost use Rattle.week.specs.Tables.{lent, refusal};
 ghost use Rattle.repair.specs.Found.{Gives};
 ghost use Rattle.robust.specs.Super.{first_super};
@@ -226,8 +226,8 @@ fn least(at: &Partial<'_>, tally: &mut Tally, x: Lot, known: Order) -> Order
     finish(at, tally, Some(x), most).unwrap_or(known)
 }
 
-// The first super solution: lot by lot the least slot with which the rest can be finished. Inner layers share it: they have judged the tables.
-pub fn find_super(week: &Week<'_>, tally: &mut Tally) -> Option<Order>
+// The first super solution: lot by lot the least slot with which the rest can be finished.
+fn first_found(week: &Week<'_>, tally: &mut Tally) -> Option<Order>
     requires { refusal (lent week.now) ≡ 0 }
     ensures { Gives (first_super (lent week.now)) result }
 {
@@ -261,4 +261,71 @@ pub fn find_super(week: &Week<'_>, tally: &mut Tally) -> Option<Order>
         first = first.placed(lot, v);
     }
     Some(first)
+}
+
+// What a caller may lend the search for its notebook: any numbers will do.
+pub trait Notebook {
+    // Whether it has a place for how many partial orders are tried, and the number in it, 0 without one.
+    ghost counts: { Self → Type 0 };
+
+    ghost tried: { Self → ℕ };
+
+    // The notebook with which the search begins.
+    fn tally(&self) -> Tally
+        ensures { result.tried ≡ tried self.now };
+
+    // What the search has written goes back.
+    fn keep(&mut self, tally: &Tally)
+        ensures { counts self.old → tried self.new ≡ tally.now.tried };
+}
+
+impl Notebook for Tally {
+    ghost counts = { λ _. Unit {0} };
+
+    ghost tried = { λ t. t.tried };
+
+    fn tally(&self) -> Tally {
+        *self
+    }
+
+    fn keep(&mut self, tally: &Tally) {
+        *self = *tally;
+    }
+}
+
+// A list of numbers, of any length: the weights of the 24 lots, and behind them how many partial orders are tried. Where there is no place the lot
+// weighs 1 and nothing is written.
+impl Notebook for &mut [u32] {
+    ghost counts = { λ s. 24 < length s.now };
+
+    ghost tried = { λ s. get_or s.now 24 0 };
+
+    fn tally(&self) -> Tally {
+        let mut tally = Tally::new();
+        for (weight, number) in tally.weights.iter_mut().zip(self.iter()) {
+            *weight = *number;
+        }
+        tally.tried = self.get(24).copied().unwrap_or(0);
+        tally
+    }
+
+    fn keep(&mut self, tally: &Tally) {
+        for (number, weight) in self.iter_mut().zip(tally.weights.iter()) {
+            *number = *weight;
+        }
+        if 24 < self.len() {
+            self[24] = tally.tried;
+        }
+    }
+}
+
+// The first super solution, by a notebook of the caller's. Inner layers share it: they have judged the tables.
+pub fn find_super<N: Notebook>(week: &Week<'_>, notes: &mut N) -> Option<Order>
+    requires { refusal (lent week.now) ≡ 0 }
+    ensures { Gives (first_super (lent week.now)) result }
+{
+    let mut tally = notes.tally();
+    let found = first_found(week, &mut tally);
+    notes.keep(&tally);
+    found
 }

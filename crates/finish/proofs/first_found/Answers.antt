@@ -1,4 +1,4 @@
--- `finish::find_super` meets its contract: the lots passed have the least slots that a super solution has.
+-- `finish::first_found` meets its contract: the lots passed have the least slots that a super solution has.
 use mathlib.Core.Path.{refl}
 use native.Mathlib.Omega.{arith}
 use Rattle.lex.specs.Lists.{padded}
@@ -6,7 +6,7 @@ use Rattle.week.specs.Tables.{lent}
 use Rattle.week.proofs.Tables.{accepted}
 use Rattle.room.proofs.Grouped.{grouped_exclusive}
 use Rattle.finish.proofs.First.{going_start, first_none, outer_start, outer_known, outer_next, outer_step, outer_found, outer_padded}
-use Rattle.finish.proofs.find_super.Goals as goal
+use Rattle.finish.proofs.first_found.Goals as goal
 
 pub groups-groups-requires : goal.groups-groups-requires
 groups-groups-requires c = rw c.rules-rules.ensures.lots (accepted (lent c.args.week.now) c.requires).limits.few
