@@ -15,9 +15,6 @@ use Rattle.lex.specs.Every.{one_if}
 use Rattle.lex.specs.Lists.{list_of, padded}
 use Rattle.lex.proofs.Every.{both, and_left, and_right, each, each_all, one_if_le}
 use Rattle.lex.proofs.Lists.{length_list, list_at, list_beyond}
-use Rattle.week.specs.declared.Refusal.{Refusal}
-use Rattle.week.specs.declared.Refusal.TheVariants as V
-use Rattle.week.specs.Refusal.{number}
 use Rattle.week.specs.Rules.{bit_of, inside, word_of}
 use Rattle.week.specs.Tables.{lot_ok, lot_ok_at}
 use Rattle.week.proofs.Tables.{zero_first, zero_rest, halts, runs_on}

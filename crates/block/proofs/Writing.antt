@@ -8,7 +8,7 @@ use native.Mathlib.Omega.{arith}
 use lib.Dec.{eqb}
 use lib.ListN.{length}
 use borrow.Author.Tests.{eqb-true, ne_eqb}
-use Rattle.std.specs.Prelude.{Result, Ok, Err}
+use Rattle.std.specs.Prelude.{Result, Err}
 use Rattle.lex.proofs.Every.{and_left}
 use Rattle.week.specs.declared.Refusal.{Refusal}
 use Rattle.week.specs.declared.Refusal.TheVariants as V

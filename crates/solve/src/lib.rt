@@ -132,7 +132,8 @@ pub fn tried(week: &Week<'_>) -> u32
     }
     let mut tally = Tally::new();
     finish::find_super(week, &mut tally);
-    tally.tried
+    // A count that began at 1 and held at the highest number is told less that 1.
+    tally.tried.min(4294967294)
 }
 
 // Whether a row is right for a loss: some repair of a break, and the order itself where the loss is none.
