@@ -293,8 +293,8 @@ impl Notebook for Tally {
     }
 }
 
-// A list of numbers, of any length: the weights of the 24 lots, and behind them how many partial orders are tried. Where there is no place the lot
-// weighs 1 and nothing is written.
+// A list of numbers, of any length: the weights of the 24 lots, and behind them how many partial orders are tried. A lot without a place begins with
+// weight 1, and what it comes to is not written.
 impl Notebook for &mut [u32] {
     ghost counts = { λ s. 24 < length s.now };
 
